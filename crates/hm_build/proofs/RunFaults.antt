@@ -1,7 +1,10 @@
 -- What a fault of a reader says of a run.
-use Rattle.std.proofs.Common.{◌≡◌, ◌⊎◌, ◌<◌, ◌≤◌, ℕ, List, All, IfErr, IfSome, IsErrOf, Option, Some, None, Result, Ok, Err, inl, inr, ⊎_elim, sym, ap, subst, ◌∙◌, arith}
+use Rattle.std.proofs.Common.{◌≡◌, ◌⊎◌, ◌<◌, ◌≤◌, ℕ, IfErr, IfSome, IsErrOf, Option, Some, None, Result, Ok, Err, inl, inr, ⊎_elim, sym, ap, subst, ◌∙◌, arith}
+use Rattle.hm_run_io.specs.Watching.{HasWriteFault, IsWrittenOnce}
+use Rattle.hm_run_io.specs.Writes.{WritesOnce}
 use Rattle.hm_run_io.specs.declared.faults.RunFault.{RunFault}
 use Rattle.hm_run_io.specs.declared.faults.RunFault.TheVariants.{Workers, Read, Write, Memory, NoWorker, Mixed}
+use Rattle.hm_run_io.specs.declared.watched.Watched.{Watched}
 
 number : RunFault → ℕ
 number Workers = 0
@@ -22,27 +25,6 @@ only_read_faults n r e is why low high = (
   (λ w. let at : Workers ≡ e = ap fault_of (sym w ∙ is) in ⊎_elim (λ q. let z : 0 ≡ 1 = ap number (at ∙ q) in absurd (omega (arith, z))) (λ q. let z : 0 ≡ 3 = ap number (at ∙ q) in absurd (omega (arith, z))) why),
   (λ b. ⊎_elim (λ z. absurd (omega (arith, z, low))) (λ m. absurd (omega (arith, m, high))) b),
 )
-
--- sources that were read are no fault
-pub no_failure : {X T : Type 0} (P : X → Type 0) (readers : List X) (sources : T) → IsErrOf {T = T} {E = RunFault} (Ok sources) Read ⊎ All P readers → All P readers
-no_failure P readers sources either = ⊎_elim (λ e. absurd (cc)) (λ a. a) either
-
--- where an answer passes a fault on, both have the same fault
-pub passed_on : {S T : Type 0} (r : Result S RunFault) (e f : RunFault) → r ≡ Err e → IsErrOf r f → IsErrOf {T = T} {E = RunFault} (Err e) f
-unfolding fault_of
-passed_on r e f is at = ap Err (ap fault_of (sym is ∙ at))
-
-pub passed_back : {S T : Type 0} (r : Result S RunFault) (e f : RunFault) → r ≡ Err e → IsErrOf {T = T} {E = RunFault} (Err e) f → IsErrOf r f
-unfolding fault_of
-passed_back r e f is at = is ∙ ap Err (ap fault_of at)
-
--- a fault of the checks is none of a reader
-pub not_of_reading : {T : Type 0} (e : RunFault) → (e ≡ Memory) ⊎ ((e ≡ NoWorker) ⊎ (e ≡ Mixed)) → ¬ (IsErrOf {T = T} (Err e) Read)
-unfolding number fault_of
-not_of_reading e why is =
-    let at : e ≡ Read = ap fault_of is in
-    ⊎_elim (λ q. let z : 3 ≡ 1 = ap number (sym q ∙ at) in absurd (omega (arith, z)))
-    (λ w. ⊎_elim (λ q. let z : 4 ≡ 1 = ap number (sym q ∙ at) in absurd (omega (arith, z))) (λ q. let z : 5 ≡ 1 = ap number (sym q ∙ at) in absurd (omega (arith, z))) w) why
 
 -- what comes before a write is no fault of it
 pub not_of_writing : {T : Type 0} (e : RunFault) → (e ≡ Workers) ⊎ ((e ≡ Read) ⊎ ((e ≡ Memory) ⊎ ((e ≡ NoWorker) ⊎ (e ≡ Mixed)))) → ¬ (IsErrOf {T = T} (Err e) Write)
@@ -69,3 +51,7 @@ pub one_of_all : {T : Type 0} (r : Result T RunFault) (e : RunFault) → r ≡ E
 one_of_all r e is why =
     subst (λ q. IfErr q (λ f. (f ≡ Workers) ⊎ ((f ≡ Read) ⊎ ((f ≡ Write) ⊎ ((f ≡ Memory) ⊎ ((f ≡ NoWorker) ⊎ (f ≡ Mixed))))))) (sym is)
     (⊎_elim (λ a. inl a) (λ b. inr (⊎_elim (λ a. inl a) (λ d. inr (inr d)) b)) why)
+
+-- a run whose write failed
+pub writes_failed : {W T : Type 0} (old new : Watched W) (e : RunFault) (result : Result T RunFault) → result ≡ Err e → e ≡ Write → IsWrittenOnce new → HasWriteFault new → WritesOnce old new result
+writes_failed old new e result is write once cause = subst (λ r. WritesOnce old new r) (sym is) (record { flushed = tt; nothing = inr (ap Err write); once = once; written = inl (ap Err write); write = λ f. cause })

@@ -1,10 +1,11 @@
 //! Reads sources and checks them. Writing the result is left to the callers.
-ghost use Rattle.std.specs.Prelude.{◌≡◌, ◌<◌, ◌⊎◌, ◌↔◌, ℕ, List, None, All, Any, IfOk, IfErr, IfSome, IsErrOf, OnOk, map, string_bytes};
+ghost use Rattle.std.specs.Prelude.{◌≡◌, ◌<◌, ◌⊎◌, ◌↔◌, ℕ, List, None, All, IfOk, IfErr, IfSome, IsErrOf, map, string_bytes};
 ghost use Rattle.hm_build_messages.specs.Explained.{IsExplained, StatesExhaustion};
 ghost use Rattle.hm_build_listing.specs.Listed.{IsListed};
 ghost use Rattle.hm_build_output.specs.JournalledRuns.{IsRun};
-ghost use Rattle.hm_run_io.specs.Sources.{AreReadUp, Stops, StopsAtFault, Tell, held_of};
-ghost use Rattle.hm_run_io.specs.Watching.{device_of, failures_of, given_of, HasReadFault, IsFresh, IsReadWhole, IsReadWithin};
+ghost use Rattle.hm_run_io.specs.Reads.{ReadsAll};
+ghost use Rattle.hm_run_io.specs.Sources.{Tell, held_of};
+ghost use Rattle.hm_run_io.specs.Watching.{device_of, given_of, IsFresh};
 
 use crate::stacks::build_answer_on_thread;
 use hm_build_output::{Explained, RunOptions};
@@ -15,7 +16,7 @@ use std::io::Read;
 use std::sync::Wait;
 use std::thread::Threads;
 
-// Why: docs/DECISIONS.md, "One path".
+// Why: docs/DECISIONS.md, "One path", "Records of devices".
 /// Reads the sources and checks their modules. Returns the text of the report or of the refusal, the status, and the messages if they are
 /// requested.
 ///
@@ -42,21 +43,11 @@ pub(crate) fn read_and_check<T: Threads + Wait + Sync, R: Read>(
         s.items) e.names.items) (map given_of readers.new) a.answer.status (string_bytes a.answer.text) a.messages.items)) }
     ensures given_listed { IfOk result (λ a. IfSome run_options.listed (λ names. IsListed (map string_bytes names.items) (map given_of readers.new)
         a.answer.status (string_bytes a.answer.text) (string_bytes a.listing))) }
-    ensures whole { OnOk result (All IsReadWhole readers.new) }
     ensures exhausted { IfSome note.new (λ m. (sources : List (List ℕ)) → Tell (λ r. R.remaining (device_of r)) readers.old sources
         → IfSome run_options.explain (λ e. StatesExhaustion e.paint (map (λ s. s.items) e.names.items) (map held_of sources) m.items)) }
     ensures silent { IsErrOf result RunFault.Memory ⊎ (note.new ≡ None) }
-    ensures unread { IsErrOf result RunFault.Workers → readers.new ≡ readers.old }
-    ensures read_up { OnOk result (AreReadUp (λ r. R.remaining (device_of r)) readers.old readers.new) }
-    ensures read_up_before_a_build { (IsErrOf result RunFault.NoWorker ⊎ IsErrOf result RunFault.Mixed)
-        → AreReadUp (λ r. R.remaining (device_of r)) readers.old readers.new }
-    ensures stops { IsErrOf result RunFault.Read → StopsAtFault (λ r. R.remaining (device_of r)) readers.old readers.new }
-    ensures in_order { IsErrOf result RunFault.Memory → AreReadUp (λ r. R.remaining (device_of r)) readers.old readers.new ⊎ Stops (λ r.
-        R.remaining (device_of r)) readers.old readers.new }
-    ensures within { All IsReadWithin readers.new }
-    ensures failed { IsErrOf result RunFault.Read ⊎ All (λ r. failures_of r ≡ 0) readers.new }
+    ensures reads { ReadsAll R.remaining readers.old readers.new result }
     ensures workers { IsErrOf result RunFault.Workers ↔ ((run_options.options.workers ≡ 0) ⊎ (16 < run_options.options.workers)) }
-    ensures read { IsErrOf result RunFault.Read → Any HasReadFault readers.new }
     ensures others { IfErr result (λ e. (e ≡ RunFault.Workers)
         ⊎ ((e ≡ RunFault.Read) ⊎ ((e ≡ RunFault.Memory) ⊎ ((e ≡ RunFault.NoWorker) ⊎ (e ≡ RunFault.Mixed))))) }
 {

@@ -1,8 +1,9 @@
 //! Reads sources and checks them. Writing the result is left to the callers.
-ghost use Rattle.std.specs.Prelude.{◌≡◌, ◌<◌, ◌⊎◌, ◌↔◌, ℕ, List, All, Any, IfOk, IfErr, IsErrOf, OnOk, map, string_bytes};
+ghost use Rattle.std.specs.Prelude.{◌≡◌, ◌<◌, ◌⊎◌, ◌↔◌, ℕ, List, All, IfOk, IfErr, IsErrOf, map, string_bytes};
 ghost use Rattle.hm_build_place_runs.specs.Runs.{IsPlaceRun};
-ghost use Rattle.hm_run_io.specs.Sources.{AreReadUp, Stops, StopsAtFault, Tell, held_of};
-ghost use Rattle.hm_run_io.specs.Watching.{device_of, failures_of, given_of, HasReadFault, IsFresh, IsReadWhole, IsReadWithin};
+ghost use Rattle.hm_run_io.specs.Reads.{ReadsAll};
+ghost use Rattle.hm_run_io.specs.Sources.{Tell, held_of};
+ghost use Rattle.hm_run_io.specs.Watching.{device_of, given_of, IsFresh};
 
 use crate::answers::AskedPlace;
 use crate::stacks::answer_on_thread;
@@ -27,18 +28,8 @@ pub(crate) fn read_and_answer<T: Threads + Wait + Sync, R: Read>(
         (record { source = asked.question.source; line = asked.question.line; column = asked.question.column; format = asked.question.format }) a.status (string_bytes a.text)) }
     ensures given { IfOk result (λ a. IsPlaceRun (map (λ n. n.items) asked.question.names.items) (map given_of readers.new)
         (record { source = asked.question.source; line = asked.question.line; column = asked.question.column; format = asked.question.format }) a.status (string_bytes a.text)) }
-    ensures whole { OnOk result (All IsReadWhole readers.new) }
-    ensures unread { IsErrOf result RunFault.Workers → readers.new ≡ readers.old }
-    ensures read_up { OnOk result (AreReadUp (λ r. R.remaining (device_of r)) readers.old readers.new) }
-    ensures read_up_before_a_build { (IsErrOf result RunFault.NoWorker ⊎ IsErrOf result RunFault.Mixed)
-        → AreReadUp (λ r. R.remaining (device_of r)) readers.old readers.new }
-    ensures stops { IsErrOf result RunFault.Read → StopsAtFault (λ r. R.remaining (device_of r)) readers.old readers.new }
-    ensures in_order { IsErrOf result RunFault.Memory → AreReadUp (λ r. R.remaining (device_of r)) readers.old readers.new ⊎ Stops (λ r.
-        R.remaining (device_of r)) readers.old readers.new }
-    ensures within { All IsReadWithin readers.new }
-    ensures failed { IsErrOf result RunFault.Read ⊎ All (λ r. failures_of r ≡ 0) readers.new }
+    ensures reads { ReadsAll R.remaining readers.old readers.new result }
     ensures workers { IsErrOf result RunFault.Workers ↔ ((asked.options.workers ≡ 0) ⊎ (16 < asked.options.workers)) }
-    ensures read { IsErrOf result RunFault.Read → Any HasReadFault readers.new }
     ensures others { IfErr result (λ e. (e ≡ RunFault.Workers)
         ⊎ ((e ≡ RunFault.Read) ⊎ ((e ≡ RunFault.Memory) ⊎ ((e ≡ RunFault.NoWorker) ⊎ (e ≡ RunFault.Mixed))))) }
 {

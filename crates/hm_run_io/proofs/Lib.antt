@@ -1,2 +1,4 @@
 pub mod ReadUp
+pub mod Runs
 pub mod Transferring
+mod WorkedDevices

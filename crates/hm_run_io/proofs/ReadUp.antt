@@ -1,10 +1,10 @@
 -- What readers tell, one reader after the other, and how far they are read.
-use Rattle.std.proofs.Common.{◌≡◌, ℕ, ◌+◌, ◌<◌, ◌≤◌, List, [], ◌∷◌, ◌++◌, Option, Some, IfSome, length, take, map, get_or, refl, sym, ap, subst, ◌∙◌, arith, inl, inr}
-use Rattle.std.proofs.lemmas.List.{take_more, take_more_set, map-append, get_or-set_other, get_or-set_same, length-set}
+use Rattle.std.proofs.Common.{◌≡◌, ℕ, ◌+◌, ◌<◌, ◌≤◌, List, [], ◌∷◌, ◌++◌, Option, Some, IfSome, length, take, map, get_or, refl, sym, ap, subst, ◌∙◌, arith, inl, inr, rules}
+use Rattle.std.proofs.lemmas.List.{places, take_more, take_more_set, map-append, get_or-set_other, get_or-set_same, length-set}
 use Rattle.std.proofs.lemmas.Bool.{cases_order}
 use Rattle.std.proofs.Math.ListN.{set}
 use Rattle.std.proofs.lemmas.List.Elements.{All-append, All-cons, All-nil, All-set}
-use Rattle.std.specs.Prelude.{All, Result, Ok, Err, OnErr}
+use Rattle.std.specs.Prelude.{All, Any, Result, Ok, Err, OnErr}
 use Rattle.hm_run_io.specs.Sources.{IsReadUp, Stops, StopsAt, Tell, held_of}
 
 -- what the last of some readers tells stands last
@@ -70,6 +70,10 @@ stops f olds news i y long within before past = record { place = i; stops = stop
 -- what was written at a place is found there
 pub found_set : {X : Type 0} (P : X → Type 0) (olds news : List X) (i : ℕ) (y : X) → length news ≡ length olds → i < length olds → P y → (d : X) → P (get_or (set news i y) i d)
 found_set P olds news i y long within h d = subst P (sym (get_or-set_same news i y d (omega (arith, long, within)))) h
+
+-- so P holds of some element
+pub some_set : {X : Type 0} (P : X → Type 0) (news : List X) (i : ℕ) (y : X) → i < length news → P y → Any P (set news i y)
+some_set P news i y within h = (i, y, search (rules, places), search (rules, places), h)
 
 -- one more element of which P holds
 pub all_more : {X : Type 0} (P : X → Type 0) (old new : List X) (y : X) → new ≡ old ++ y ∷ [] → All P old → P y → All P new

@@ -1,3 +1,6 @@
 pub mod Counting
+pub mod Reads
 pub mod Sources
 pub mod Watching
+pub mod Worked
+pub mod Writes

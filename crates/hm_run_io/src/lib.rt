@@ -4,6 +4,7 @@
 #![tactic(auto)]
 
 mod faults;
+pub mod laws;
 mod output;
 mod reading;
 mod watched;

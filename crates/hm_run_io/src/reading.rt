@@ -1,8 +1,9 @@
 //! Reads sources.
-ghost use Rattle.std.specs.Prelude.{All, Any, map, true, ◌≡◌, ℕ, List, ◌⊎◌, ◌+◌, ◌++◌, ◌<◌, ◌≤◌, Some, Ok, IfErr, IfOk, IfSome, IsErrOf, OnErr, OnOk, vec_len};
+ghost use Rattle.std.specs.Prelude.{All, map, true, ◌≡◌, ℕ, List, ◌⊎◌, ◌+◌, ◌++◌, ◌<◌, ◌≤◌, Some, Ok, IfErr, IfOk, IfSome, IsErrOf, OnErr, OnOk, vec_len};
 ghost use Rattle.std.specs.Io.KnownBytes.{Consumes, IsAtEnd};
 ghost use Rattle.hm_run_io.specs.Counting.{one_more};
-ghost use Rattle.hm_run_io.specs.Sources.{held_of, AreReadUp, IsReadUp, Stops, StopsAtFault, Tell};
+ghost use Rattle.hm_run_io.specs.Reads.{ReadsAll};
+ghost use Rattle.hm_run_io.specs.Sources.{held_of, IsReadUp, Stops, Tell};
 ghost use Rattle.hm_run_io.specs.Watching.{device_of, reads_of, bytes_of, given_of, failures_of, has_ended_of, HasReadFault, IsFresh, IsReadWhole, IsReadWithin};
 
 use crate::{RunFault, Watched};
@@ -104,13 +105,8 @@ pub fn read_all<R: Read>(
     ensures bytes { IfOk result (λ sources. (told : List (List ℕ)) → Tell (λ r. R.remaining (device_of r)) readers.old told
         → map (λ s. s.items) sources.items ≡ map held_of told) }
     ensures given { IfOk result (λ sources. map (λ s. s.items) sources.items ≡ map given_of readers.new) }
-    ensures whole { OnOk result (All IsReadWhole readers.new) }
-    ensures read_up { OnOk result (AreReadUp (λ r. R.remaining (device_of r)) readers.old readers.new) }
+    ensures reads { ReadsAll R.remaining readers.old readers.new result }
     ensures stops { OnErr result (Stops (λ r. R.remaining (device_of r)) readers.old readers.new) }
-    ensures stops_at_fault { IsErrOf result RunFault.Read → StopsAtFault (λ r. R.remaining (device_of r)) readers.old readers.new }
-    ensures within { All IsReadWithin readers.new }
-    ensures failed { IsErrOf result RunFault.Read ⊎ All (λ r. failures_of r ≡ 0) readers.new }
-    ensures read { IsErrOf result RunFault.Read → Any HasReadFault readers.new }
     ensures others { IfErr result (λ e. (e ≡ RunFault.Read) ⊎ (e ≡ RunFault.Memory)) }
 {
     let mut sources = Vec::new(alloc);

@@ -1,6 +1,6 @@
 -- A source that is held tells as much as the whole one.
-use Rattle.std.proofs.Common.{◌≡◌, ℕ, ◌+◌, ◌<◌, ◌≤◌, List, [], ◌∷◌, ◌++◌, length, take, map, refl, sym, ap, subst, ◌∙◌, arith, inl, inr}
-use Rattle.std.proofs.lemmas.List.{take_more, map-append, take_all, length-take, length-map}
+use Rattle.std.proofs.Common.{◌≡◌, ℕ, ◌+◌, ◌≤◌, List, [], ◌∷◌, ◌++◌, length, map, refl, sym, ap, subst, ◌∙◌, arith, inl, inr}
+use Rattle.std.proofs.lemmas.List.{take_all, length-take, length-map}
 use Rattle.hm_lex.specs.declared.token.LexFault.TheVariants as lexing
 use Rattle.hm_lex.specs.Faults.{AreTokensOf, IsRefusal}
 use Rattle.hm_graph.specs.Outline.{Outline}

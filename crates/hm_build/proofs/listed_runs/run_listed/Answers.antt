@@ -1,60 +1,43 @@
-use Rattle.std.proofs.Common.{rules, ◌≡◌, Err, inl, inr, refl, ⊎_elim, string_bytes}
+use Rattle.std.proofs.Common.{rules, ◌≡◌, Err, inl, inr, refl, string_bytes}
 use Rattle.hm_build_output.proofs.Telling.{stated_to}
-use Rattle.hm_build.proofs.RunFaults.{no_failure, not_of_writing, passed_back, passed_on, some_at}
-use Rattle.hm_run_io.specs.Watching.{failures_of}
-use Rattle.hm_run_io.specs.declared.faults.RunFault.TheVariants as fault
+use Rattle.hm_build.proofs.RunFaults.{not_of_writing, some_at, writes_failed}
+use Rattle.hm_run_io.proofs.Runs.{reads_before, reads_done, reads_passed_on, writes_nothing}
 use Rattle.hm_build.proofs.listed_runs.run_listed.Goals as goal
 
-pub returns-in-Some-clause-read_up_before_a_build : goal.returns-in-Some-clause-read_up_before_a_build
-returns-in-Some-clause-read_up_before_a_build g c either =
-    let e = c.in-Err.fault in
-    c.in-Err.ensures.read_up_before_a_build (⊎_elim (λ f. inl (passed_on (Err e) e fault.NoWorker refl f)) (λ f. inr (passed_on (Err e) e fault.Mixed refl f)) either)
+pub returns-in-Some-clause-reads : goal.returns-in-Some-clause-reads
+returns-in-Some-clause-reads g c = reads_passed_on (λ d. g.R.Read.remaining d) c.args.readers.now c.read_and_check.new.readers c.in-Err.fault (Err c.in-Err.fault) refl c.in-Err.ensures.reads
 
-pub returns-in-Some-clause-in_order : goal.returns-in-Some-clause-in_order
-returns-in-Some-clause-in_order g c f = c.in-Err.ensures.in_order (passed_on (Err c.in-Err.fault) c.in-Err.fault fault.Memory refl f)
+pub returns-in-Some-clause-writes : goal.returns-in-Some-clause-writes
+returns-in-Some-clause-writes g c = writes_nothing c.args.outputs.now.writer c.in-Err.fault (Err c.in-Err.fault) refl c.requires.writer c.in-Err.ensures.others
 
-pub returns-in-Some-clause-stops : goal.returns-in-Some-clause-stops
-returns-in-Some-clause-stops g c f = c.in-Err.ensures.stops (passed_on (Err c.in-Err.fault) c.in-Err.fault fault.Read refl f)
+pub returns-in_default-clause-reads : goal.returns-in_default-clause-reads
+returns-in_default-clause-reads g c = reads_passed_on (λ d. g.R.Read.remaining d) c.args.readers.now c.read_and_check.new.readers c.in-Err.fault (Err c.in-Err.fault) refl c.in-Err.ensures.reads
 
-pub returns-in-Some-clause-read : goal.returns-in-Some-clause-read
-returns-in-Some-clause-read g c f = c.in-Err.ensures.read (passed_on (Err c.in-Err.fault) c.in-Err.fault fault.Read refl f)
-
-pub returns-in-Some-clause-failed : goal.returns-in-Some-clause-failed
-returns-in-Some-clause-failed g c = ⊎_elim (λ f. inl (passed_back (Err c.in-Err.fault) c.in-Err.fault fault.Read refl f)) (λ all. inr all) c.in-Err.ensures.failed
-
-pub returns-in_default-clause-read_up_before_a_build : goal.returns-in_default-clause-read_up_before_a_build
-returns-in_default-clause-read_up_before_a_build g c either =
-    let e = c.in-Err.fault in
-    c.in-Err.ensures.read_up_before_a_build (⊎_elim (λ f. inl (passed_on (Err e) e fault.NoWorker refl f)) (λ f. inr (passed_on (Err e) e fault.Mixed refl f)) either)
-
-pub returns-in_default-clause-in_order : goal.returns-in_default-clause-in_order
-returns-in_default-clause-in_order g c f = c.in-Err.ensures.in_order (passed_on (Err c.in-Err.fault) c.in-Err.fault fault.Memory refl f)
-
-pub returns-in_default-clause-stops : goal.returns-in_default-clause-stops
-returns-in_default-clause-stops g c f = c.in-Err.ensures.stops (passed_on (Err c.in-Err.fault) c.in-Err.fault fault.Read refl f)
-
-pub returns-in_default-clause-read : goal.returns-in_default-clause-read
-returns-in_default-clause-read g c f = c.in-Err.ensures.read (passed_on (Err c.in-Err.fault) c.in-Err.fault fault.Read refl f)
-
-pub returns-in_default-clause-failed : goal.returns-in_default-clause-failed
-returns-in_default-clause-failed g c = ⊎_elim (λ f. inl (passed_back (Err c.in-Err.fault) c.in-Err.fault fault.Read refl f)) (λ all. inr all) c.in-Err.ensures.failed
+pub returns-in_default-clause-writes : goal.returns-in_default-clause-writes
+returns-in_default-clause-writes g c = writes_nothing c.args.outputs.now.writer c.in-Err.fault (Err c.in-Err.fault) refl c.requires.writer c.in-Err.ensures.others
 
 pub returns-in_default-clause-prefix : goal.returns-in_default-clause-prefix
 returns-in_default-clause-prefix g c is = absurd (not_of_writing c.in-Err.fault c.in-Err.ensures.others is)
-
-pub returns-in_default-clause-read_up_before_a_write : goal.returns-in_default-clause-read_up_before_a_write
-returns-in_default-clause-read_up_before_a_write g c is = absurd (not_of_writing c.in-Err.fault c.in-Err.ensures.others is)
 
 -- the message of a module for which memory ran out
 pub returns-in-Some-clause-exhausted : goal.returns-in-Some-clause-exhausted
 returns-in-Some-clause-exhausted g c is sources told =
     inr (c.in-Some.message.items, some_at _ c.read_and_check.new.note c.in-Some.message c.in-Some.is c.in-Err.ensures.exhausted sources told, stated_to c.write_text.result _ _ c.in-Some.message.items _ (search rules) (search rules) (search rules))
 
-pub returns-in_err-write_text-clause-failed : goal.returns-in_err-write_text-clause-failed
-returns-in_err-write_text-clause-failed g c = inr (no_failure (λ r. failures_of r ≡ 0) c.read_and_check.new.readers c.in-Ok.explained c.in-Ok.ensures.failed)
+pub returns-in_err-write_text-clause-reads : goal.returns-in_err-write_text-clause-reads
+returns-in_err-write_text-clause-reads g c =
+    let e = c.in_err-write_text.field-0.0 in
+    let is : c.from_residual.result ≡ Err e = search rules in
+    reads_before (λ d. g.R.Read.remaining d) c.args.readers.now c.read_and_check.new.readers c.in-Ok.explained e c.from_residual.result is (inl (search rules)) c.in-Ok.ensures.reads
 
-pub returns-clause-failed : goal.returns-clause-failed
-returns-clause-failed g c = inr (no_failure (λ r. failures_of r ≡ 0) c.read_and_check.new.readers c.in-Ok.explained c.in-Ok.ensures.failed)
+pub returns-in_err-write_text-clause-writes : goal.returns-in_err-write_text-clause-writes
+returns-in_err-write_text-clause-writes g c =
+    let e = c.in_err-write_text.field-0.0 in
+    let is : c.from_residual.result ≡ Err e = search rules in
+    writes_failed c.args.outputs.now.writer c.write_text-2.new.writer e c.from_residual.result is c.in_err-write_text.ensures.others c.in_err-write_text.ensures.once c.in_err-write_text.ensures.cause
+
+pub returns-clause-reads : goal.returns-clause-reads
+returns-clause-reads g c = reads_done (λ d. g.R.Read.remaining d) c.args.readers.now c.read_and_check.new.readers c.in-Ok.explained c.in-Ok.explained.answer.status c.in-Ok.ensures.reads
 
 pub returns-in_err-write_text-clause-prefix : goal.returns-in_err-write_text-clause-prefix
 returns-in_err-write_text-clause-prefix g c e sources told =

@@ -1,11 +1,10 @@
-use Rattle.std.proofs.Common.{rules, ◌≡◌, ◌<◌, ◌≤◌, IsErrOf, IfSome, Err, inl, inr, ⊎_elim, map, string_bytes, subst}
+use Rattle.std.proofs.Common.{rules, ◌≡◌, ◌<◌, ◌≤◌, IfSome, Err, inr, refl, map, string_bytes, subst}
 use Rattle.hm_build_messages.specs.Explained.{IsExplained, StatesExhaustion}
 use Rattle.hm_build_listing.specs.Listed.{IsListed}
 use Rattle.hm_build_output.specs.JournalledRuns.{IsRun}
 use Rattle.hm_build_output.proofs.HeldRuns.{build_held}
-use Rattle.hm_build.proofs.RunFaults.{no_failure, not_of_reading, only_read_faults, some_more}
-use Rattle.hm_run_io.specs.Watching.{failures_of}
-use Rattle.hm_run_io.specs.declared.faults.RunFault.TheVariants as fault
+use Rattle.hm_build.proofs.RunFaults.{only_read_faults, some_more}
+use Rattle.hm_run_io.proofs.Runs.{reads_before, reads_done, reads_passed_on}
 use Rattle.hm_build.proofs.reading.read_and_check.Goals as goal
 
 pub returns-in-Ok-clause-ok : goal.returns-in-Ok-clause-ok
@@ -31,11 +30,19 @@ returns-in-Err-clause-exhausted g c =
     some_more c.in-Err.unanswered.message (λ m h sources told.
     subst (λ l. IfSome c.args.run_options.explain (λ e. StatesExhaustion e.paint (map (λ s. s.items) e.names.items) l m.items)) (c.in_ok-sources.ensures.bytes sources told) h) c.in-Err.ensures.exhausted
 
-pub returns-in-Err-clause-stops : goal.returns-in-Err-clause-stops
-returns-in-Err-clause-stops g c is = absurd (not_of_reading c.in-Err.unanswered.fault c.in-Err.ensures.err is)
+pub returns-in_err-sources-clause-reads : goal.returns-in_err-sources-clause-reads
+returns-in_err-sources-clause-reads g c =
+    let e = c.in_err-sources.field-0.0 in
+    let is : c.from_residual.result ≡ Err e = search rules in
+    reads_passed_on (λ d. g.R.Read.remaining d) c.args.readers.now c.read_all.new.readers e c.from_residual.result is c.in_err-sources.ensures.reads
 
-pub returns-in_err-sources-clause-failed : goal.returns-in_err-sources-clause-failed
-returns-in_err-sources-clause-failed g c = ⊎_elim (λ e. let same : IsErrOf c.from_residual.result fault.Read = search (rules, e) in inl same) (λ a. inr a) c.in_err-sources.ensures.failed
+pub returns-in-Err-clause-reads : goal.returns-in-Err-clause-reads
+returns-in-Err-clause-reads g c =
+    let e = c.in-Err.unanswered.fault in
+    reads_before (λ d. g.R.Read.remaining d) c.args.readers.now c.read_all.new.readers c.in_ok-sources.sources e (Err e) refl (inr c.in-Err.ensures.err) c.in_ok-sources.ensures.reads
+
+pub returns-in-Ok-clause-reads : goal.returns-in-Ok-clause-reads
+returns-in-Ok-clause-reads g c = reads_done (λ d. g.R.Read.remaining d) c.args.readers.now c.read_all.new.readers c.in_ok-sources.sources c.in-Ok.explained c.in_ok-sources.ensures.reads
 
 pub returns-in_err-sources-clause-workers : goal.returns-in_err-sources-clause-workers
 returns-in_err-sources-clause-workers g c =
@@ -43,9 +50,6 @@ returns-in_err-sources-clause-workers g c =
     let high : c.args.run_options.options.workers ≤ 16 = search rules in
     let is : c.from_residual.result ≡ Err c.in_err-sources.field-0.0 = search rules in
     only_read_faults c.args.run_options.options.workers c.from_residual.result c.in_err-sources.field-0.0 is c.in_err-sources.ensures.others low high
-
-pub returns-in-Ok-clause-failed : goal.returns-in-Ok-clause-failed
-returns-in-Ok-clause-failed g c = inr (no_failure (λ r. failures_of r ≡ 0) c.read_all.new.readers c.in_ok-sources.sources c.in_ok-sources.ensures.failed)
 
 pub returns-in-Ok-clause-given : goal.returns-in-Ok-clause-given
 returns-in-Ok-clause-given g c =

@@ -1,32 +1,34 @@
-use Rattle.std.proofs.Common.{rules, ◌≡◌, Err, inl, inr, ⊎_elim, string_bytes}
-use Rattle.hm_build.proofs.RunFaults.{no_failure, one_of_all, passed_back, passed_on}
-use Rattle.hm_run_io.specs.Watching.{failures_of}
-use Rattle.hm_run_io.specs.declared.faults.RunFault.TheVariants as fault
+use Rattle.std.proofs.Common.{rules, ◌≡◌, Err, inl, string_bytes}
+use Rattle.hm_build.proofs.RunFaults.{one_of_all, writes_failed}
+use Rattle.hm_run_io.proofs.Runs.{reads_before, reads_done, reads_passed_on, writes_nothing}
 use Rattle.hm_build_place_runs.proofs.running.run_place.Goals as goal
 
-pub returns-in_err-answer-clause-read_up_before_a_build : goal.returns-in_err-answer-clause-read_up_before_a_build
-returns-in_err-answer-clause-read_up_before_a_build g c either =
+pub returns-in_err-answer-clause-reads : goal.returns-in_err-answer-clause-reads
+returns-in_err-answer-clause-reads g c =
     let e = c.in_err-answer.field-0.0 in
     let is : c.from_residual.result ≡ Err e = search rules in
-    c.in_err-answer.ensures.read_up_before_a_build (⊎_elim (λ f. inl (passed_on c.from_residual.result e fault.NoWorker is f)) (λ f. inr (passed_on c.from_residual.result e fault.Mixed is f)) either)
+    reads_passed_on (λ d. g.R.Read.remaining d) c.args.readers.now c.read_and_answer.new.readers e c.from_residual.result is c.in_err-answer.ensures.reads
 
-pub returns-in_err-answer-clause-in_order : goal.returns-in_err-answer-clause-in_order
-returns-in_err-answer-clause-in_order g c f =
+pub returns-in_err-answer-clause-writes : goal.returns-in_err-answer-clause-writes
+returns-in_err-answer-clause-writes g c =
     let e = c.in_err-answer.field-0.0 in
     let is : c.from_residual.result ≡ Err e = search rules in
-    c.in_err-answer.ensures.in_order (passed_on c.from_residual.result e fault.Memory is f)
+    writes_nothing c.args.writer.now e c.from_residual.result is c.requires.writer c.in_err-answer.ensures.others
 
-pub returns-in_err-answer-clause-failed : goal.returns-in_err-answer-clause-failed
-returns-in_err-answer-clause-failed g c =
-    let e = c.in_err-answer.field-0.0 in
-    let is : c.from_residual.result ≡ Err e = search rules in
-    ⊎_elim (λ f. inl (passed_back c.from_residual.result e fault.Read is f)) (λ all. inr all) c.in_err-answer.ensures.failed
+pub returns-in_err-write_text-clause-reads : goal.returns-in_err-write_text-clause-reads
+returns-in_err-write_text-clause-reads g c =
+    let e = c.in_err-write_text.field-0.0 in
+    let is : c.from_residual-in_err-write_text.result ≡ Err e = search rules in
+    reads_before (λ d. g.R.Read.remaining d) c.args.readers.now c.read_and_answer.new.readers c.in_ok-answer.answer e c.from_residual-in_err-write_text.result is (inl (search rules)) c.in_ok-answer.ensures.reads
 
-pub returns-in_err-write_text-clause-failed : goal.returns-in_err-write_text-clause-failed
-returns-in_err-write_text-clause-failed g c = inr (no_failure (λ r. failures_of r ≡ 0) c.read_and_answer.new.readers c.in_ok-answer.answer c.in_ok-answer.ensures.failed)
+pub returns-in_err-write_text-clause-writes : goal.returns-in_err-write_text-clause-writes
+returns-in_err-write_text-clause-writes g c =
+    let e = c.in_err-write_text.field-0.0 in
+    let is : c.from_residual-in_err-write_text.result ≡ Err e = search rules in
+    writes_failed c.args.writer.now c.write_text.new.writer e c.from_residual-in_err-write_text.result is c.in_err-write_text.ensures.others c.in_err-write_text.ensures.once c.in_err-write_text.ensures.cause
 
-pub returns-clause-failed : goal.returns-clause-failed
-returns-clause-failed g c = inr (no_failure (λ r. failures_of r ≡ 0) c.read_and_answer.new.readers c.in_ok-answer.answer c.in_ok-answer.ensures.failed)
+pub returns-clause-reads : goal.returns-clause-reads
+returns-clause-reads g c = reads_done (λ d. g.R.Read.remaining d) c.args.readers.now c.read_and_answer.new.readers c.in_ok-answer.answer c.in_ok-answer.answer.status c.in_ok-answer.ensures.reads
 
 pub returns-in_err-write_text-clause-prefix : goal.returns-in_err-write_text-clause-prefix
 returns-in_err-write_text-clause-prefix g c e sources told =

@@ -1,16 +1,15 @@
-use Rattle.std.proofs.Common.{rules, ◌≡◌, ◌++◌, ◌∷◌, [], map, take, get_or, sym, ap, subst, ◌∙◌, arith, IfSome, inl, inr, ◌≤◌, vec_len}
-use Rattle.std.proofs.lemmas.List.{take_all, map-append, places, get_or_default}
+use Rattle.std.proofs.Common.{rules, ◌≡◌, ◌++◌, ◌∷◌, [], map, take, get_or, sym, ap, subst, ◌∙◌, arith, IfSome, ◌≤◌, vec_len, Err}
+use Rattle.std.proofs.Math.ListN.{set}
 use Rattle.std.proofs.lemmas.Result.{err_from_is_err_and}
+use Rattle.std.proofs.lemmas.List.{take_all, map-append, places, get_or_default}
 use Rattle.std.specs.Prelude.{All}
-use Rattle.hm_run_io.specs.Watching.{device_of, failures_of, given_of, HasReadFault, IsReadWhole, IsReadWithin}
+use Rattle.hm_run_io.specs.Watching.{device_of, failures_of, given_of, IsReadWhole, IsReadWithin}
+use Rattle.hm_run_io.specs.Reads.{ReadsAll}
+use Rattle.hm_run_io.specs.declared.faults.RunFault.TheVariants.{Memory}
 use Rattle.hm_run_io.specs.Sources.{IsReadUp, Tell, held_of}
-use Rattle.hm_run_io.proofs.ReadUp.{all_more, all_set, all_taken, answered, found_set, given_more, read_up_more, set_past, stops, stops_at, told_more}
+use Rattle.hm_run_io.proofs.ReadUp.{all_more, all_set, all_taken, answered, given_more, read_up_more, set_past, stops, told_more}
+use Rattle.hm_run_io.proofs.Runs.{reads_ended, reads_stopped, reads_stopped_by_memory}
 use Rattle.hm_run_io.proofs.reading.read_all.Goals as goal
-
-pub returns-in_err-source-clause-read : goal.returns-in_err-source-clause-read
-returns-in_err-source-clause-read g c e =
-    let p = err_from_is_err_and c.from_residual.result c.from_residual.ensures.1 in
-    (c.loop-index.index, c.read_source.new.reader, search (rules, places), search (rules, places), c.in_err-source.ensures.read (let made = p.1 in let same = p.2 in cc))
 
 pub loop-index-preserved : goal.loop-index-preserved
 loop-index-preserved g c =
@@ -29,22 +28,6 @@ loop-index-preserved g c =
       all_taken IsReadWhole c.loop-index.readers c.loop-index.index c.read_source.new.reader (search rules) c.loop-index.invariant.8 c.in_ok-source.ensures.whole,
     )
 
-pub returns-in_err-source-clause-failed : goal.returns-in_err-source-clause-failed
-returns-in_err-source-clause-failed g c =
-    let p = err_from_is_err_and c.from_residual.result c.from_residual.ensures.1 in
-    elim c.in_err-source.ensures.others [
-      | inl read ↦ inl (let made = p.1 in let same = p.2 in cc)
-      | inr memory ↦ inr (all_set (λ r. failures_of r ≡ 0) c.loop-index.readers c.loop-index.index c.read_source.new.reader c.loop-index.invariant.4 (c.in_err-source.ensures.memory (cc)))
-    ]
-
-pub returns-in_err-push-clause-within : goal.returns-in_err-push-clause-within
-returns-in_err-push-clause-within g c =
-    all_set IsReadWithin c.loop-index.readers c.loop-index.index c.read_source.new.reader c.loop-index.invariant.3 c.in_ok-source.ensures.within
-
-pub returns-in_err-push-clause-failed : goal.returns-in_err-push-clause-failed
-returns-in_err-push-clause-failed g c =
-    inr (all_set (λ r. failures_of r ≡ 0) c.loop-index.readers c.loop-index.index c.read_source.new.reader c.loop-index.invariant.4 (search rules))
-
 pub returns-clause-bytes : goal.returns-clause-bytes
 returns-clause-bytes g c told h =
     let all : take c.loop-index.index c.args.readers.now ≡ c.args.readers.now = take_all _ _ (search rules) in
@@ -53,27 +36,31 @@ returns-clause-bytes g c told h =
 pub returns-in_err-source-clause-stops : goal.returns-in_err-source-clause-stops
 returns-in_err-source-clause-stops g c = answered c.from_residual.result (stops (λ r. g.R.Read.remaining (device_of r)) c.args.readers.now c.loop-index.readers c.loop-index.index c.read_source.new.reader c.loop-index.invariant.1 (search rules) c.loop-index.invariant.5 c.loop-index.invariant.0)
 
-pub returns-in_err-source-clause-stops_at_fault : goal.returns-in_err-source-clause-stops_at_fault
-returns-in_err-source-clause-stops_at_fault g c e =
-    let p = err_from_is_err_and c.from_residual.result c.from_residual.ensures.1 in
-    record {
-      place = c.loop-index.index;
-      stops = stops_at (λ r. g.R.Read.remaining (device_of r)) c.args.readers.now c.loop-index.readers c.loop-index.index c.read_source.new.reader c.loop-index.invariant.1 (search rules) c.loop-index.invariant.5 c.loop-index.invariant.0;
-      fault = found_set HasReadFault c.args.readers.now c.loop-index.readers c.loop-index.index c.read_source.new.reader c.loop-index.invariant.1 (search rules) (c.in_err-source.ensures.read (let made = p.1 in let same = p.2 in cc));
-    }
-
 pub returns-in_err-push-clause-stops : goal.returns-in_err-push-clause-stops
 returns-in_err-push-clause-stops g c = answered c.from_residual-in_err-push.result (stops (λ r. g.R.Read.remaining (device_of r)) c.args.readers.now c.loop-index.readers c.loop-index.index c.read_source.new.reader c.loop-index.invariant.1 (search rules) c.loop-index.invariant.5 c.loop-index.invariant.0)
-
-pub returns-clause-read_up : goal.returns-clause-read_up
-returns-clause-read_up g c = record { as_many = c.loop-index.invariant.1; each = λ k d less. c.loop-index.invariant.5 k d (search rules) }
-
-pub returns-in_err-source-clause-within : goal.returns-in_err-source-clause-within
-returns-in_err-source-clause-within g c =
-    all_set IsReadWithin c.loop-index.readers c.loop-index.index c.read_source.new.reader c.loop-index.invariant.3 c.in_err-source.ensures.within
 
 pub returns-clause-given : goal.returns-clause-given
 returns-clause-given g c = c.loop-index.invariant.7 ∙ ap (map given_of) (take_all _ _ (search rules))
 
-pub returns-clause-whole : goal.returns-clause-whole
-returns-clause-whole g c = subst (All IsReadWhole) (take_all _ _ (search rules)) c.loop-index.invariant.8
+pub returns-in_err-source-clause-reads : goal.returns-in_err-source-clause-reads
+returns-in_err-source-clause-reads g c =
+    let e = c.in_err-source.field-0.0 in
+    let p = err_from_is_err_and c.from_residual.result c.from_residual.ensures.1 in
+    let is : c.from_residual.result ≡ Err e = let made = p.1 in let same = p.2 in cc in
+    subst (λ r. ReadsAll (λ d. g.R.Read.remaining d) c.args.readers.now (set c.loop-index.readers c.loop-index.index c.read_source.new.reader) r) (sym is)
+    (reads_stopped (λ d. g.R.Read.remaining d) c.args.readers.now c.loop-index.readers c.loop-index.index c.read_source.new.reader e c.loop-index.invariant.1 (search rules) c.loop-index.invariant.5 c.loop-index.invariant.0
+    c.loop-index.invariant.3 c.in_err-source.ensures.within c.loop-index.invariant.4 c.in_err-source.ensures.memory c.in_err-source.ensures.read c.in_err-source.ensures.others)
+
+pub returns-in_err-push-clause-reads : goal.returns-in_err-push-clause-reads
+returns-in_err-push-clause-reads g c =
+    let p = err_from_is_err_and c.from_residual-in_err-push.result c.from_residual-in_err-push.ensures.1 in
+    let is : c.from_residual-in_err-push.result ≡ Err Memory = let made = p.1 in let same = p.2 in cc in
+    let ok : failures_of c.read_source.new.reader ≡ 0 = search rules in
+    subst (λ r. ReadsAll (λ d. g.R.Read.remaining d) c.args.readers.now (set c.loop-index.readers c.loop-index.index c.read_source.new.reader) r) (sym is)
+    (reads_stopped_by_memory (λ d. g.R.Read.remaining d) c.args.readers.now c.loop-index.readers c.loop-index.index c.read_source.new.reader c.loop-index.invariant.1 (search rules) c.loop-index.invariant.5 c.loop-index.invariant.0
+    c.loop-index.invariant.3 c.in_ok-source.ensures.within c.loop-index.invariant.4 ok)
+
+pub returns-clause-reads : goal.returns-clause-reads
+returns-clause-reads g c =
+    reads_ended (λ d. g.R.Read.remaining d) c.args.readers.now c.loop-index.readers c.loop-index.sources (subst (All IsReadWhole) (take_all _ _ (search rules)) c.loop-index.invariant.8)
+    (record { as_many = c.loop-index.invariant.1; each = λ k d less. c.loop-index.invariant.5 k d (search rules) }) c.loop-index.invariant.3 c.loop-index.invariant.4

@@ -1,7 +1,29 @@
-use Rattle.std.proofs.Common.{rules, map, string_bytes, subst}
+use Rattle.std.proofs.Common.{rules, ◌≡◌, Err, inl, inr, map, string_bytes, subst}
+use Rattle.hm_run_io.proofs.Runs.{reads_before, reads_done, reads_passed_on}
 use Rattle.hm_run_sources.specs.Runs.{IsPlanRun}
 use Rattle.hm_run_sources.proofs.Telling.{run_held}
 use Rattle.hm_run_sources.proofs.running.run_plan.Goals as goal
+
+pub returns-in_err-sources-clause-reads : goal.returns-in_err-sources-clause-reads
+returns-in_err-sources-clause-reads g c =
+    let e = c.in_err-sources.field-0.0 in
+    let is : c.from_residual.result ≡ Err e = search rules in
+    reads_passed_on (λ d. g.R.Read.remaining d) c.args.readers.now c.read_all.new.readers e c.from_residual.result is c.in_err-sources.ensures.reads
+
+pub returns-in_err-status-clause-reads : goal.returns-in_err-status-clause-reads
+returns-in_err-status-clause-reads g c =
+    let e = c.in_err-status.field-0.0 in
+    let is : c.from_residual-in_err-status.result ≡ Err e = search rules in
+    reads_before (λ d. g.R.Read.remaining d) c.args.readers.now c.read_all.new.readers c.in_ok-sources.sources e c.from_residual-in_err-status.result is (inr (inl (search rules))) c.in_ok-sources.ensures.reads
+
+pub returns-in_err-write_text-clause-reads : goal.returns-in_err-write_text-clause-reads
+returns-in_err-write_text-clause-reads g c =
+    let e = c.in_err-write_text.field-0.0 in
+    let is : c.from_residual-in_err-write_text.result ≡ Err e = search rules in
+    reads_before (λ d. g.R.Read.remaining d) c.args.readers.now c.read_all.new.readers c.in_ok-sources.sources e c.from_residual-in_err-write_text.result is (inl (search rules)) c.in_ok-sources.ensures.reads
+
+pub returns-clause-reads : goal.returns-clause-reads
+returns-clause-reads g c = reads_done (λ d. g.R.Read.remaining d) c.args.readers.now c.read_all.new.readers c.in_ok-sources.sources c.in_ok-status.field-0.status c.in_ok-sources.ensures.reads
 
 pub returns-in_err-write_text-clause-prefix : goal.returns-in_err-write_text-clause-prefix
 returns-in_err-write_text-clause-prefix g c e sources told =
