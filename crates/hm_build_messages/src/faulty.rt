@@ -306,11 +306,11 @@ fn signature_text(
     Ok(part_message(alloc, module, &noted)?)
 }
 
-/// Returns whether the note of a signature that leads is first, if that of the part may be first in any case.
-fn leads_before(leads: bool, is_part_first: bool) -> bool
-    ensures { result ≡ true → leads ≡ true }
+/// Returns whether the note of a signature is first: other definitions mention this one, and that of the part isn't first in any case.
+fn leads_before(unsigned: &Unsigned, is_part_first: bool) -> bool
+    ensures { result ≡ true → unsigned.now.leads ≡ true }
 {
-    leads && !is_part_first
+    unsigned.leads && unsigned.is_used && !is_part_first
 }
 
 /// Returns the note of the signature of a fault, or no text. It doesn't lead if the note of the part is first in any case.
@@ -334,7 +334,7 @@ fn signature_note(
     let text = signature_text(alloc, module, found.fault.name.as_str(), &unsigned, end)?;
     Ok(SignatureNote {
         text,
-        leads: leads_before(unsigned.leads, is_part_first),
+        leads: leads_before(&unsigned, is_part_first),
     })
 }
 

@@ -41,6 +41,7 @@ fn found_in_cut(
         definition: searched.definition,
         others: searched.others,
         is_signed: searched.is_signed,
+        is_alone: searched.is_alone,
         cost: cost_of(source, lexed.outline),
     };
     if smaller.cost > MOST_COST_OF_SEARCH {
@@ -194,6 +195,7 @@ pub fn joint_of(
         definition: fault.name.as_str(),
         others: others.as_slice(),
         is_signed: signature_of(&lexed, binding.start).is_some(),
+        is_alone: true,
         cost: cost_of(question.source, lexed.outline),
     };
     let Some(cut) = cut_of(alloc, &lexed, binding)? else {

@@ -73,6 +73,7 @@ pub(crate) fn is_typed_with(
         definition: searched.definition,
         others: searched.others,
         is_signed: searched.is_signed,
+        is_alone: searched.is_alone,
         cost: searched.cost.saturating_add(holes),
     };
     is_mended_by(alloc, &dearer, edits.as_slice(), effort)

@@ -19,6 +19,8 @@ pub struct Searched<'a, 'q> {
     pub others: &'a [&'a str],
     /// Whether the definition has a signature.
     pub is_signed: bool,
+    /// Whether no other definitions are searched.
+    pub is_alone: bool,
     /// The cost of a trial.
     pub cost: usize,
 }

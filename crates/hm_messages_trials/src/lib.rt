@@ -9,6 +9,7 @@ mod costs;
 mod culprits;
 pub mod laws;
 mod mends;
+mod mentioned;
 mod part_typing;
 mod ranking;
 mod reading;

@@ -4,10 +4,10 @@ use crate::costs::Effort;
 use crate::culprits::{MendingParts, Searched, is_mended_by};
 use crate::trial::has_types_in;
 use hm_messages_changes::{
-    Insertion, Reported, SmallChange, Wrapper, changes_at, constructor_name, exchanges_at,
-    insertions_in, part_of, pattern_exchanges_in, with_constructor, wrappers_of,
+    Insertion, Reported, SmallChange, Wrapper, changes_at, constructor_name, insertions_in,
+    part_of, pattern_exchanges_in, with_constructor, wrappers_of,
 };
-use hm_messages_outline::{Outline, Role, Run, TermPart, without_brackets};
+use hm_messages_outline::{Lexed, Outline, Role, Run, TermPart, without_brackets};
 use hm_parse_grammar::Symbol;
 use std::alloc::{AllocError, Global};
 
@@ -49,11 +49,37 @@ fn points_of(outline: &Outline, part: TermPart) -> usize {
     points
 }
 
-/// Returns how much more likely a part is if this change of it gives the definition a type. An exchange outweighs all else. Of a pattern only lists of one
-/// element are changed, which is a rarer slip than those that other changes mend.
-fn points_of_change(change: &SmallChange) -> usize {
+/// Returns whether an argument has the same tokens as the expression before it, with which the other run begins.
+fn is_repeated(lexed: &Lexed<'_>, argument: Run, around: Run) -> bool {
+    let length = argument.end.saturating_sub(argument.start);
+    if argument.start.saturating_sub(around.start) != length {
+        return false;
+    }
+    (0..length).all(|at| {
+        let before = around.start.saturating_add(at);
+        lexed.text(before) == lexed.text(argument.start.saturating_add(at))
+    })
+}
+
+/// Returns whether a change at a part outweighs all else: an exchange of arguments, or one that leaves out an argument that repeats the one before it.
+pub(crate) fn is_strong(lexed: &Lexed<'_>, part: TermPart, change: &SmallChange) -> bool {
     match change.reported {
-        Reported::Exchange(_, _) | Reported::Sides(_, _) => 8,
+        Reported::Exchange(_, _) => true,
+        Reported::Removal(argument, around) => {
+            around.start != part.run.start && is_repeated(lexed, argument, around)
+        }
+        _ => false,
+    }
+}
+
+/// Returns how much more likely a part is if this change of it gives the definition a type. Of a pattern only lists of one element are changed, which is a
+/// rarer slip than those that other changes mend.
+fn points_of_change(lexed: &Lexed<'_>, part: TermPart, change: &SmallChange) -> usize {
+    if is_strong(lexed, part, change) {
+        return 8;
+    }
+    match change.reported {
+        Reported::Sides(_, _) => 8,
         Reported::Pattern(_, _) => 5,
         Reported::Insertion(Insertion::ListBrackets, _) => 1,
         _ => 4,
@@ -68,7 +94,7 @@ fn has_faulty_argument(parts: &[TermPart], part: TermPart) -> bool {
     parts.iter().any(|other| other.run.start >= part.run.end && other.run.end <= part.around.end)
 }
 
-/// Returns the changes that are tried at a part. At a function these are exchanges alone if one of these parts lies in its arguments: that one is more
+/// Returns the changes that are tried at a part, strong ones first. At a function these are all if one of these parts lies in its arguments: that one is more
 /// likely than the function.
 fn changes_for(
     alloc: Global,
@@ -76,10 +102,18 @@ fn changes_for(
     parts: &[TermPart],
     part: TermPart,
 ) -> Result<Vec<SmallChange>, AllocError> {
-    if has_faulty_argument(parts, part) {
-        return exchanges_at(alloc, searched.lexed, part.around);
+    let all = changes_at(alloc, searched.lexed, part, searched.is_signed)?;
+    let are_all_tried = !has_faulty_argument(parts, part);
+    let mut found = Vec::new(alloc);
+    for is_first in [true, false] {
+        for change in &all {
+            let is_wanted = is_first || are_all_tried;
+            if is_wanted && is_strong(searched.lexed, part, change) == is_first {
+                found.push(*change)?;
+            }
+        }
     }
-    changes_at(alloc, searched.lexed, part, searched.is_signed)
+    Ok(found)
 }
 
 /// Returns a part of these, and what is reported of it: the expression around the first change that gives the definition a type, or else the part without
@@ -100,7 +134,7 @@ fn judged_part(
             return Ok(Suspect {
                 start,
                 reported: change.reported,
-                points: points.saturating_add(points_of_change(change)),
+                points: points.saturating_add(points_of_change(searched.lexed, part, change)),
             });
         }
     }
@@ -230,6 +264,37 @@ fn is_wrapped(
     )
 }
 
+/// Returns how many literals of its kind a source has, if what is reported is one literal.
+fn literals_like(outline: &Outline, reported: Reported) -> Option<usize> {
+    let Reported::Expression(run) = reported else {
+        return None;
+    };
+    let symbol = outline.symbol(run.start);
+    if run.end.saturating_sub(run.start) != 1 {
+        return None;
+    }
+    match symbol {
+        Symbol::Integer | Symbol::Character | Symbol::Text => {
+            let all = 0..outline.len();
+            Some(all.filter(|at| outline.symbol(*at).is(symbol)).count())
+        }
+        _ => None,
+    }
+}
+
+/// Returns whether a part is likelier than one before it: it has more points, or as many. Of two literals with as many it is the one of the rarer kind.
+fn is_likelier(outline: &Outline, suspect: Suspect, other: Suspect) -> bool {
+    if suspect.points != other.points {
+        return suspect.points > other.points;
+    }
+    let own = literals_like(outline, suspect.reported);
+    let others = literals_like(outline, other.reported);
+    match (own, others) {
+        (Some(own), Some(others)) if own != others => own < others,
+        _ => suspect.start > other.start,
+    }
+}
+
 /// Returns what is reported of these parts: of the one with the most points, and of the last of several with as many.
 fn likeliest_part(
     alloc: Global,
@@ -241,10 +306,7 @@ fn likeliest_part(
     for part in parts {
         let suspect = judged_part(alloc, searched, parts, *part, effort)?;
         let is_better = match best {
-            Some(other) => {
-                suspect.points > other.points
-                    || suspect.points == other.points && suspect.start > other.start
-            }
+            Some(other) => is_likelier(searched.lexed.outline, suspect, other),
             None => true,
         };
         if is_better {

@@ -10,6 +10,7 @@ use crate::mends::{
     Mend, types_exchanged, types_if_left_out, types_with_insertion, types_with_pattern,
     types_wrapped,
 };
+use crate::mentioned::change_elsewhere;
 use crate::ranking::likeliest;
 use crate::reading::{TypeFault, read};
 use crate::trial::types_without;
@@ -44,14 +45,22 @@ fn likeliest_in(
     likeliest(alloc, searched, top.as_slice(), &found, effort)
 }
 
+/// What is reported of a definition.
+#[derive(Clone, Copy)]
+struct Choice {
+    own: Option<Reported>,
+    /// What is reported of another definition, which is likelier.
+    other: Option<Reported>,
+}
+
 /// Returns what is reported of a definition, by a search in this smaller source.
-fn reported_in_cut(
+fn choice_in_cut(
     alloc: Global,
     searched: &Searched<'_, '_>,
     cut: &Cut,
     definition: Run,
     effort: &mut Effort,
-) -> Result<Option<Reported>, AllocError> {
+) -> Result<Option<Choice>, AllocError> {
     let source = cut.text.as_slice();
     let Some(reading) = read(alloc, source)? else {
         return Ok(None);
@@ -63,28 +72,26 @@ fn reported_in_cut(
         definition: searched.definition,
         others: searched.others,
         is_signed: searched.is_signed,
+        is_alone: searched.is_alone,
         cost: cost_of(source, lexed.outline),
     };
     let start = token_at(lexed.tokens, cut.definition);
     let size = definition.end.saturating_sub(definition.start);
     let end = start.saturating_add(size);
-    let Some(reported) = likeliest_in(alloc, &smaller, Run { start, end }, effort)? else {
-        return Ok(None);
+    let mut choice = Choice {
+        own: None,
+        other: None,
     };
-    Ok(Some(reported.moved(start, definition.start)))
-}
-
-/// Returns what is reported of a definition, by a search in a smaller source.
-fn reported_in(
-    alloc: Global,
-    searched: &Searched<'_, '_>,
-    definition: Run,
-    effort: &mut Effort,
-) -> Result<Option<Reported>, AllocError> {
-    match cut_of(alloc, searched.lexed, definition)? {
-        Some(cut) => reported_in_cut(alloc, searched, &cut, definition, effort),
-        None => Ok(None),
+    if let Some(reported) = likeliest_in(alloc, &smaller, Run { start, end }, effort)? {
+        choice.own = Some(reported.moved(start, definition.start));
+        if reported.is_change() {
+            return Ok(Some(choice));
+        }
     }
+    if !searched.is_alone {
+        choice.other = change_elsewhere(alloc, &smaller, searched.lexed, effort)?;
+    }
+    Ok(Some(choice))
 }
 
 /// Returns an expression, if the definition has a type with the hole in place of it.
@@ -308,6 +315,27 @@ fn confirmed<'q>(
     }
 }
 
+/// Returns the first of these that gives the definition a type, if it is found: a change of another definition, and else what is reported of its own.
+fn confirmed_choice<'q>(
+    alloc: Global,
+    searched: &Searched<'_, 'q>,
+    choice: Choice,
+) -> Result<Option<Mend<'q>>, AllocError>
+    ensures { IfOk result (λ found. IfSome found (IsMend searched.now.question.now.source.now searched.now.question.now.name.now
+        (map arc_value searched.now.question.now.imports.now) searched.now.definition.now)) }
+{
+    if let Some(reported) = choice.other {
+        let mend = confirmed(alloc, searched, reported)?;
+        if mend.is_some() {
+            return Ok(mend);
+        }
+    }
+    match choice.own {
+        Some(reported) => Ok(confirmed(alloc, searched, reported)?),
+        None => Ok(None),
+    }
+}
+
 /// Returns the names of faults.
 pub fn names_of<'a>(alloc: Global, faults: &'a [Fault]) -> Result<Vec<&'a str>, AllocError> {
     let mut names = Vec::with_capacity(alloc, faults.len())?;
@@ -337,7 +365,7 @@ pub fn mend_of<'q>(
     ensures stays { IsUsedUp effort.old → IsUsedUp effort.new }
 {
     effort.begin();
-    Ok(mend_within(alloc, question, found, effort)?)
+    Ok(mend_in(alloc, question, found, false, effort)?)
 }
 
 /// Does what `mend_of` does, with the trials that are left for the fault. So what was searched for it before counts too.
@@ -349,6 +377,22 @@ pub fn mend_within<'q>(
     alloc: Global,
     question: &Question<'q>,
     found: &TypeFault<'_>,
+    effort: &mut Effort,
+) -> Result<Option<Mend<'q>>, AllocError>
+    ensures mend { IfOk result (λ mend. IfSome mend (IsMend question.now.source.now question.now.name.now (map arc_value question.now.imports.now)
+        found.now.fault.now.name)) }
+    ensures none { IsUsedUp effort.old → IfOk result (λ mend. mend ≡ None) }
+    ensures stays { IsUsedUp effort.old → IsUsedUp effort.new }
+{
+    Ok(mend_in(alloc, question, found, true, effort)?)
+}
+
+/// Does what `mend_of` does, with the trials that are left for the fault. Other definitions are searched too, except if `is_alone`.
+fn mend_in<'q>(
+    alloc: Global,
+    question: &Question<'q>,
+    found: &TypeFault<'_>,
+    is_alone: bool,
     effort: &mut Effort,
 ) -> Result<Option<Mend<'q>>, AllocError>
     ensures mend { IfOk result (λ mend. IfSome mend (IsMend question.now.source.now question.now.name.now (map arc_value question.now.imports.now)
@@ -374,13 +418,17 @@ pub fn mend_within<'q>(
         definition: fault.name.as_str(),
         others: others.as_slice(),
         is_signed: signature_of(&lexed, binding.start).is_some(),
+        is_alone,
         cost: cost_of(question.source, lexed.outline),
     };
     if !effort.pays(searched.cost) {
         return Ok(None);
     }
-    let Some(reported) = reported_in(alloc, &searched, binding, effort)? else {
+    let Some(cut) = cut_of(alloc, &lexed, binding)? else {
         return Ok(None);
     };
-    confirmed(alloc, &searched, reported)
+    match choice_in_cut(alloc, &searched, &cut, binding, effort)? {
+        Some(choice) => Ok(confirmed_choice(alloc, &searched, choice)?),
+        None => Ok(None),
+    }
 }

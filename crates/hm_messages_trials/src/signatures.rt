@@ -22,9 +22,10 @@ pub struct Unsigned {
     pub signature: SourceRange,
     /// The text of the type, with names of synonyms.
     pub own: String,
-    /// Whether the signature is likelier to be wrong than the definition: other definitions mention this one, and without the signature the module
-    /// is good.
+    /// Whether the module is good without the signature. So that may be likelier to be wrong than the definition.
     pub leads: bool,
+    /// Whether other definitions mention this one.
+    pub is_used: bool,
 }
 
 /// Returns the text of the type that a definition has alone.
@@ -120,18 +121,12 @@ fn unsigned_in(
     if !has_types_in(alloc, question, changed.as_slice(), layout.name, &[])? {
         return Ok(None);
     }
-    if !signed.is_used {
-        return Ok(Some(Unsigned {
-            signature,
-            own,
-            leads: false,
-        }));
-    }
     let leads = is_good_in(alloc, question, changed.as_slice())?;
     Ok(Some(Unsigned {
         signature,
         own,
         leads,
+        is_used: signed.is_used,
     }))
 }
 
