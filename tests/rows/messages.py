@@ -1504,6 +1504,17 @@ REASONS = [
         "                                       ^^^^^^\n"
         "errors: 2, skipped modules: 0\n",
     ),
+    # the importing module's own name is near too, but isn't meant
+    (
+        "module List where { import Lists }\n"
+        "module Lista where { }",
+        2,
+        "M.hs:1:28: error: no module 'Lists' is given (did you mean 'Lista'?) [missing]\n"
+        "An import names a module of the set or `Prelude`; there is no other library.\n"
+        "module List where { import Lists }\n"
+        "                           ^^^^^\n"
+        "errors: 1, skipped modules: 0\n",
+    ),
     # each import that names no module, and no other one
     (
         "module A where { import B ; import Prelude ; import C }\n"

@@ -1,5 +1,5 @@
 -- The imports of a set that name no module (Haskell 98 Report, section 5.3).
-use Rattle.std.specs.Prelude.{ℕ, Bool, not, List, [], ◌∷◌, ◌++◌, Contains, None, Option, Some, filter, map, ⊤}
+use Rattle.std.specs.Prelude.{◌≡◌, ◌⊎◌, ℕ, All, Bool, not, List, [], ◌∷◌, ◌++◌, Contains, None, Option, Some, filter, map, ⊤}
 use Rattle.hm_lex.specs.declared.token.Place.{Place}
 use Rattle.hm_syntax.specs.declared.ast.Import.{Import}
 use Rattle.hm_names.specs.Scope.{prelude_name}
@@ -33,10 +33,18 @@ names_none names i = not (is_text_among i.name names)
 abbrev pub missing_imports : List Located → List SetImport
 missing_imports ls = filter (names_none (prelude_name ∷ module_names ls)) (set_imports ls)
 
--- if there is a near name, one edit makes it of this one, and a module of these sources or Prelude has it
+-- none of the module's imports has this name
+abbrev pub HasNoImport : Located → List ℕ → Type 0
+HasNoImport l name = All (λ i. ¬ (i.name.text ≡ name)) l.header.imports
+
+-- Prelude has the near name, or one of these modules that doesn't have the import itself: a module that has it can't be meant, because it would import itself
+abbrev pub IsImportable : List Located → List ℕ → List ℕ → Type 0
+IsImportable ls name near = (near ≡ prelude_name) ⊎ ((l : Located) × Contains ls l × (near ≡ l.header.name.text) × HasNoImport l name)
+
+-- if there is a near name, one edit makes it of this one, and an import of a module of these sources can have it
 abbrev pub HasNearModule : List (List ℕ) → List ℕ → Option (List ℕ) → Type 0
 HasNearModule sources name None = ⊤
-HasNearModule sources name (Some near) = (ls : List Located) × AreLocated sources ls × Contains (prelude_name ∷ module_names ls) near × AreNear name near
+HasNearModule sources name (Some near) = (ls : List Located) × AreLocated sources ls × IsImportable ls name near × AreNear name near
 
 abbrev pub import_of : MissingImport → SetImport
 import_of m = record { number = m.source; place = m.place; name = m.name.now }

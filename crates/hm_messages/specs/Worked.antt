@@ -5,6 +5,7 @@ use Rattle.std.specs.Fmt.{decimal}
 use Rattle.hm_lex.specs.Faults.{IsRefusal}
 use Rattle.hm_lex.specs.declared.token.Place.{Place}
 use Rattle.hm_lex.specs.declared.token.LexFault.TheVariants.{Lexeme}
+use Rattle.hm_syntax.specs.declared.ast.Import.{Import}
 use Rattle.hm_syntax.specs.declared.ast.Module.{Module}
 use Rattle.hm_run_sources.specs.Origins.{AreLocated}
 use Rattle.hm_run_sources.specs.Refusals.{lex}
@@ -17,7 +18,7 @@ use Rattle.hm_messages.specs.Foreign.{IsForeign}
 use Rattle.hm_messages.specs.FurtherFaults.{AreFirstFaults}
 use Rattle.hm_messages.specs.Headings.{further_text}
 use Rattle.hm_messages.specs.Messages.{IsMessage}
-use Rattle.hm_messages.specs.Missing.{HasNearModule}
+use Rattle.hm_messages.specs.Missing.{HasNearModule, IsImportable}
 use Rattle.hm_messages.specs.ModuleStarts.{IsModuleAround, module_start}
 use Rattle.hm_messages.specs.Refused.{IsNamedAt, IsPositionOf, IsRefusedAt, place_of}
 use Rattle.hm_messages.specs.Subjects.{Subject}
@@ -41,10 +42,11 @@ pub record FurtherRow : Type 0 where
   pub third : (s t : List ℕ) (modules : List Module) (p : Place) → HasModules s modules → IsRefusal t (Lexeme p) → AreFirstFaults 2 (s ∷ t ∷ []) (lex 3 (Lexeme p) ∷ [])
   pub none_left : (p : Place) → ¬ (AreFirstFaults 2 [] (lex 2 (Lexeme p) ∷ []))
 
--- Prelude and a module of the sources are near names. A set of no sources has no module List
+-- Prelude is a near name, and so is the only module of the sources, if it has no imports. A module that imports Lists isn't one of Lists, and a set of no sources has no module List
 pub record NearModuleRow : Type 0 where
   pub prelude : AreLocated [] [] → AreNear (codes "Prelud") (codes "Prelude") → HasNearModule [] (codes "Prelud") (Some (codes "Prelude"))
-  pub own : (sources : List (List ℕ)) (l : Located) (y : List ℕ) → AreLocated sources (l ∷ []) → AreNear y l.header.name.text → HasNearModule sources y (Some l.header.name.text)
+  pub own : (sources : List (List ℕ)) (l : Located) (y : List ℕ) → AreLocated sources (l ∷ []) → l.header.imports ≡ [] → AreNear y l.header.name.text → HasNearModule sources y (Some l.header.name.text)
+  pub not_itself : (l : Located) (i : Import) → l.header.name.text ≡ codes "List" → l.header.imports ≡ i ∷ [] → i.name.text ≡ codes "Lists" → ¬ (IsImportable (l ∷ []) (codes "Lists") (codes "List"))
   pub none_there : ¬ (HasNearModule [] (codes "Lists") (Some (codes "List")))
 
 -- without a place no position is named. The place of the first byte of an empty source has one, so its position isn't left out

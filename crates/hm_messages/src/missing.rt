@@ -1,9 +1,9 @@
 //! The imports of a set that name no module.
-ghost use Rattle.std.specs.Prelude.{◌≡◌, ◌∷◌, ◌++◌, List, ℕ, IfOk, OnOk, filter, map, option_map};
+ghost use Rattle.std.specs.Prelude.{◌≡◌, ◌∷◌, ◌++◌, List, ℕ, IfOk, OnOk, false, filter, map, option_map, true};
 ghost use Rattle.hm_names.specs.Scope.{prelude_name};
 ghost use Rattle.hm_names.specs.Texts.{is_text_among};
 ghost use Rattle.hm_run_sources.specs.Origins.{AreLocated};
-ghost use Rattle.hm_messages.specs.Missing.{HasNearModule, import_of, missing_imports, module_names, names_none, set_import, set_imports};
+ghost use Rattle.hm_messages.specs.Missing.{HasNearModule, HasNoImport, import_of, missing_imports, module_names, names_none, set_import, set_imports};
 
 use hm_lex::Place;
 use hm_messages_details::is_near;
@@ -25,7 +25,21 @@ pub(crate) struct MissingImport<'a> {
 /// The most imports of a set for which a near name is searched.
 const MOST_NEAR: usize = 16;
 
-/// Returns the name of Prelude or of a module that is near to this one.
+/// Returns whether a module has an import of this name.
+fn has_import(here: &Located, name: &str) -> bool
+    ensures has { result ≡ true → ¬ (HasNoImport here.entry.now name.now) }
+    ensures hasnt { result ≡ false → HasNoImport here.entry.now name.now }
+{
+    'imports: for import in here.header.imports.as_slice() {
+        if import.name.as_str() == name {
+            return true;
+        }
+    }
+    false
+}
+
+// Why: docs/DECISIONS.md, "Near names of modules".
+/// Returns the name of Prelude, or of a module without an import of this name, that is near to it.
 fn near_module<'a>(
     alloc: Global,
     located: &'a [Located],
@@ -38,7 +52,10 @@ fn near_module<'a>(
     }
     'modules: for here in located {
         let other = here.header.name.as_str();
-        if is_near(alloc, name, other)? {
+        if !is_near(alloc, name, other)? {
+            continue;
+        }
+        if !has_import(here, name) {
             return Ok(Some(other));
         }
     }
