@@ -33,7 +33,7 @@ pub struct Imported {
 }
 
 /// Returns a module.
-pub(crate) fn module_of<'a>(view: &View<'a>, number: usize) -> &'a Module
+pub fn module_of<'a>(view: &View<'a>, number: usize) -> &'a Module
     requires { number < length view.now.store.now.modules }
     ensures { result.now ≡ module_at (known_of view.now).set number }
 {
@@ -83,7 +83,11 @@ fn imported_interfaces(
 }
 
 /// Returns the interfaces of the imports of a module.
-fn imports_at(alloc: Global, view: &View<'_>, number: usize) -> Result<Imported, AllocError>
+///
+/// # Errors
+///
+/// If memory runs out.
+pub fn imports_at(alloc: Global, view: &View<'_>, number: usize) -> Result<Imported, AllocError>
     requires { number < length view.now.store.now.modules }
     ensures { IfOk result (λ found. IsImported (known_of view.now) number (interfaces_in found)) }
 {

@@ -9,6 +9,6 @@ pub mod laws;
 mod names;
 
 pub use crate::asking::references_of;
-pub use crate::imported::{Imported, View, all_imported};
-pub use crate::names::all_names;
+pub use crate::imported::{Imported, View, all_imported, imports_at, module_of};
+pub use crate::names::{all_names, source_of};
 pub use hm_uses_references::Reference;

@@ -42,7 +42,7 @@ fn number_at(numbers: &[usize], index: usize) -> usize
 }
 
 /// Returns the number in the held set of a module's source. `part` has the numbers of the sources that are checked.
-fn source_of(view: &View<'_>, part: &[usize], number: usize) -> usize
+pub fn source_of(view: &View<'_>, part: &[usize], number: usize) -> usize
     ensures { result ≡ source_of (known_of view.now) part.now number }
 {
     let index = number_at(view.origins, number);

@@ -1,0 +1,4 @@
+pub mod WorkedTypes
+mod OneEntry
+mod Growing
+mod SeveralSchemes

@@ -1,0 +1,3 @@
+pub mod WorkedCompletions
+mod OwnInterfaces
+mod Walking
