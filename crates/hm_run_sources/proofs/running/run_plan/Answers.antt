@@ -23,7 +23,7 @@ returns-in_err-write_text-clause-reads g c =
     reads_before (λ d. g.R.Read.remaining d) c.args.readers.now c.read_all.new.readers c.in_ok-sources.sources e c.from_residual-in_err-write_text.result is (inl (search rules)) c.in_ok-sources.ensures.reads
 
 pub returns-clause-reads : goal.returns-clause-reads
-returns-clause-reads g c = reads_done (λ d. g.R.Read.remaining d) c.args.readers.now c.read_all.new.readers c.in_ok-sources.sources c.in_ok-status.field-0.status c.in_ok-sources.ensures.reads
+returns-clause-reads g c = reads_done (λ d. g.R.Read.remaining d) c.args.readers.now c.read_all.new.readers c.in_ok-sources.sources _ c.in_ok-sources.ensures.reads
 
 pub returns-in_err-write_text-clause-prefix : goal.returns-in_err-write_text-clause-prefix
 returns-in_err-write_text-clause-prefix g c e sources told =
