@@ -45,6 +45,7 @@ fn writes_nothing_after_a_failed_read(rt: HostRuntime) -> Result<(), Fail> {
     let ended = ran(&rt, readers.as_mut_slice(), &mut writer, OPTIONS);
     assert_eq!(rt; ended, Err(RunFault::Read));
     assert_eq!(rt; readers[2].reads(), 0);
+    drop(writer);
     assert!(rt; printed.is_empty());
     Ok(())
 }
@@ -59,6 +60,7 @@ fn leaves_a_prefix_of_each_length(rt: HostRuntime) -> Result<(), Fail> {
         let ended = ran(&rt, readers.as_mut_slice(), &mut writer, OPTIONS);
         assert_eq!(rt; ended, Err(RunFault::Write), "at {room}");
         assert_eq!(rt; writer.failures(), 1, "at {room}");
+        drop(writer);
         assert!(rt; device.taken.as_slice() == &SKIPPED_REPORT[..room]);
     }
     Ok(())
@@ -86,6 +88,7 @@ fn refuses_numbers_of_workers(rt: HostRuntime) -> Result<(), Fail> {
         let ended = ran(&rt, readers.as_mut_slice(), &mut writer, options);
         assert_eq!(rt; ended, Err(RunFault::Workers));
         assert_eq!(rt; readers[0].reads(), 0);
+        drop(writer);
         assert!(rt; printed.is_empty());
     }
     Ok(())

@@ -82,6 +82,7 @@ fn reads_byte_by_byte(rt: HostRuntime) -> Result<(), Fail> {
     let mut writer = Watched::new(&mut printed);
     let ended = planned(&rt, readers.as_mut_slice(), &mut writer);
     assert_eq!(rt; ended, Ok(Status::Good));
+    drop(writer);
     assert!(rt; printed.as_slice() == TEXT);
     assert_eq!(rt; readers[0].reads(), 124);
     assert_eq!(rt; readers[0].interrupts(), 62);
@@ -99,6 +100,7 @@ fn answers_a_failed_read(rt: HostRuntime) -> Result<(), Fail> {
         assert_eq!(rt; ended, Err(RunFault::Read), "at {at}");
         assert_eq!(rt; readers[0].failures(), 1, "at {at}");
         assert_eq!(rt; readers[0].reads(), at, "at {at}");
+        drop(writer);
         assert!(rt; device.taken.is_empty());
     }
     Ok(())
@@ -116,6 +118,7 @@ fn reads_no_further_than_a_failed_reader(rt: HostRuntime) -> Result<(), Fail> {
     let ended = planned(&rt, readers.as_mut_slice(), &mut writer);
     assert_eq!(rt; ended, Err(RunFault::Read));
     assert_eq!(rt; readers[2].reads(), 0);
+    drop(writer);
     assert!(rt; device.taken.is_empty());
     Ok(())
 }
@@ -130,6 +133,7 @@ fn gives_up_an_endless_reader(rt: HostRuntime) -> Result<(), Fail> {
     assert_eq!(rt; readers[0].reads(), 2_097_152);
     assert_eq!(rt; readers[0].interrupts(), 2_097_152);
     assert_eq!(rt; readers[0].failures(), 0);
+    drop(writer);
     assert!(rt; device.taken.is_empty());
     Ok(())
 }
@@ -143,6 +147,7 @@ fn leaves_a_prefix_after_a_failed_write(rt: HostRuntime) -> Result<(), Fail> {
             let mut writer = Watched::new(&mut device);
             let ended = planned(&rt, readers.as_mut_slice(), &mut writer);
             assert_eq!(rt; ended, Err(RunFault::Write), "at {room}");
+            drop(writer);
             assert!(rt; device.taken.as_slice() == &TEXT[..room]);
         }
     }
@@ -158,6 +163,7 @@ fn gives_up_an_endless_writer(rt: HostRuntime) -> Result<(), Fail> {
     assert_eq!(rt; ended, Err(RunFault::Write));
     assert_eq!(rt; writer.interrupts(), 2_097_152);
     assert_eq!(rt; writer.failures(), 0);
+    drop(writer);
     assert!(rt; device.taken.as_slice() == &TEXT[..5]);
     Ok(())
 }
@@ -170,6 +176,7 @@ fn answers_a_failed_flush(rt: HostRuntime) -> Result<(), Fail> {
     let ended = planned(&rt, readers.as_mut_slice(), &mut writer);
     assert_eq!(rt; ended, Err(RunFault::Write));
     assert_eq!(rt; writer.failures(), 1);
+    drop(writer);
     assert!(rt; device.taken.as_slice() == b"0 modules\n".as_slice());
     Ok(())
 }
