@@ -1,3 +1,4 @@
 pub mod Edits
 pub mod Objects
 pub mod Positions
+pub mod Worked

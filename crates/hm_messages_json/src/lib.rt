@@ -2,6 +2,7 @@
 #![tactic(auto)]
 
 mod changes;
+pub mod laws;
 mod message;
 mod objects;
 mod positions;
