@@ -6,7 +6,7 @@ of bench/programs. A fault is made by chance: a token left out, given twice, exc
 out of scope; a type or a value of Prelude declared again; a slip in an expression, as bench/slips.py makes them. For each message that a run prints, what can be tried is tried:
 
 - the change of a token: the source without it can't be read up to there, and with it the fault is gone or further on;
-- a near name: with it no name is unbound or ambiguous at this place, and no module is missing;
+- a near name: with it no name is unbound or ambiguous at this place, no module is missing, and an import exports it;
 - a name to write for an ambiguous one: the same; without the import in the named line this name isn't in scope;
 - `import Prelude hiding (x)`: with it the name isn't ambiguous there;
 - two types: they have no common instance, if the definition has no signature;
@@ -161,13 +161,13 @@ def try_change(program, source, message):
 
 def try_near(program, source, message):
     found = re.search(r"\(did you mean '(.+)'\?\)$", message["text"])
-    if message["kind"] not in ("unbound", "missing") or not found:
+    if message["kind"] not in ("unbound", "missing", "not-exported") or not found:
         return None
     start, end = offset(source, message["start"]), offset(source, message["end"])
     after = ask(program, with_text(source, start, end, found[1]))[1]
-    if has_fault(after, message["start"]["line"], message["start"]["byte"], ("unbound", "ambiguous", "missing")):
+    if has_fault(after, message["start"]["line"], message["start"]["byte"], ("unbound", "ambiguous", "missing", "not-exported")):
         raise Finding("the near name is a fault too")
-    return "a near name"
+    return "a near name of an export" if message["kind"] == "not-exported" else "a near name"
 
 
 def without_import(source, line):
@@ -388,7 +388,30 @@ def slipped_twice(source, tokens, chance):
     return slipped(changed, slips.tokens_of(changed), chance)
 
 
-FAULTS = [of_tokens, of_lines, misspelt, declared_again, slipped, slipped, slipped_twice, slipped_twice]
+def in_small_letters(source, tokens, chance):
+    """Writes a type of a signature with a small letter, everywhere in the signature or once."""
+    signed = list(re.finditer(r"(?<![\w'])[a-z][\w']*\s*::\s*([^;{}]+)", source))
+    typed = [it for it in signed if re.search(r"(?<![\w'.])[A-Z]\w+(?![\w'.])", it[1])]
+    if not typed:
+        return misspelt(source, tokens, chance)
+    row = chance.choice(typed)
+    name = chance.choice(re.findall(r"(?<![\w'.])[A-Z]\w+(?![\w'.])", row[1]))
+    text = re.sub(rf"(?<![\w'.]){name}(?![\w'.])", name[0].lower() + name[1:], row[1], count=chance.choice([0, 1]))
+    return with_text(source, row.start(1), row.end(1), text)
+
+
+def misspelt_import(source, tokens, chance):
+    """Misspells a name of an import list. If there is none, it misspells another name."""
+    listed = [it for it in re.finditer(r"import\s+[\w.]+\s*\(([^;]*?)\)\s*;", source) if re.search(r"\w{4}", it[1])]
+    if not listed:
+        return misspelt(source, tokens, chance)
+    row = chance.choice(listed)
+    word = chance.choice([it for it in re.finditer(r"\w{4,}", row[1])])
+    at = row.start(1) + word.start() + chance.randrange(1, len(word[0]))
+    return with_text(source, at, at + 1, chance.choice(["", source[at] + "q"]))
+
+
+FAULTS = [of_tokens, of_lines, misspelt, misspelt_import, in_small_letters, declared_again, slipped, slipped, slipped_twice, slipped_twice]
 
 
 def tried(work):

@@ -226,7 +226,7 @@ def session():
     def ask(number, method, **params):
         return {"id": number, "method": method, "params": about("A", position={"line": 0, "character": 17}, **params)}
 
-    more = [ask(4, "textDocument/references"), ask(5, "textDocument/documentSymbol"), ask(6, "workspace/symbol", query="z"), ask(7, "textDocument/rename", newName="v")]
+    more = [ask(4, "textDocument/references"), ask(5, "textDocument/documentSymbol"), ask(6, "workspace/symbol", query="z"), ask(7, "textDocument/rename", newName="v"), ask(8, "textDocument/completion")]
     change = {"method": "textDocument/didChange", "params": about("A", contentChanges=[lsp.change((0, 21), (0, 24), "(1)")])}
     start = [{"id": 1, "method": "initialize", "params": {}}, {"method": "initialized", "params": {}}]
     texts = [opening("A", "module A where { x = 'c' ; y = x }"), opening("B", "module B where { z = w }")]

@@ -53,6 +53,27 @@ KINDS = [
         "errors: 1, skipped modules: 0\n",
     ),
     (
+        "module A where { surface x = x }\n"
+        "module M where { import A (surfase) }",
+        1,
+        "M.hs:2:28: error: cannot import 'surfase': 'A' doesn't export it (did you mean 'surface'?) [not-exported]\n"
+        "The imported module doesn't export this name, or not as a constructor of this type.\n"
+        "module M where { import A (surfase) }\n"
+        "                           ^^^^^^^\n"
+        "errors: 1, skipped modules: 0\n",
+    ),
+    # the near name is a constructor of the type
+    (
+        "module A where { data Shape = Circle Int | Square Int }\n"
+        "module M where { import A (Shape (Cirkle)) }",
+        1,
+        "M.hs:2:35: error: cannot import 'Cirkle': 'A' doesn't export it as a constructor of 'Shape' (did you mean 'Circle'?) [not-exported]\n"
+        "The imported module doesn't export this name, or not as a constructor of this type.\n"
+        "module M where { import A (Shape (Cirkle)) }\n"
+        "                                  ^^^^^^\n"
+        "errors: 1, skipped modules: 0\n",
+    ),
+    (
         "module A where { x = 1 }\n"
         "module B where { import A (y) }",
         1,

@@ -87,11 +87,11 @@ pub mod store {
 /// Builds by several threads, and runs from readers to a writer.
 pub mod build {
     pub use hm_build::{
-        BuildFault, Explain, Explaining, Finished, Gate, Listing, Open, Options, Outputs, build,
-        journal_text, report, run, run_explained, run_listed,
+        BuildFault, Finished, Gate, MessageOptions, Open, Options, Outputs, RunOptions, build,
+        journal_text, report, run, run_with_messages,
     };
     pub use hm_build_place_runs::{AskedPlace, PlaceFormat, PlaceQuestion, run_place};
-    pub use hm_messages::Paint;
+    pub use hm_messages::MessageFormat;
     pub use hm_run_io::{RunFault, Watched};
     pub use hm_run_sources::{
         Located, RefusedSet, SetFault, SetFaultKind, SourceModule, Status, Trees, plan_text,

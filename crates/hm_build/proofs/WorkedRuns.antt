@@ -18,7 +18,7 @@ use Rattle.hm_build_output.specs.Checks.{IsChecked, IsCheckRun}
 use Rattle.hm_build.specs.Headline.{HasVerdicts}
 use Rattle.hm_build_output.specs.JournalledRuns.{Follows, IsRun}
 use Rattle.hm_build_reports.specs.Journals.{MayEnd, entry_lines}
-use Rattle.hm_build.specs.Worked.{IsOneWorkers, JournalRow, NothingRow, RoomRow, VerdictsRow, no_text, nothing, one_worker}
+use Rattle.hm_build.specs.Worked.{IsOneWorkers, JournalRow, NothingRow, OutputRow, RoomRow, VerdictsRow, no_text, nothing, one_worker}
 use Rattle.hm_build.proofs.Headlines.{verdicts_of}
 use Rattle.hm_build_output.proofs.OneRun.{one_check_status}
 
@@ -123,6 +123,13 @@ not_refused journal text r = let e : 0 ≡ 2 = ap status_number (one_check_statu
 
 pub no_sources : NothingRow
 no_sources = record { may_end = may_end 1; good = λ journal. record { report = no_text; checked = nothing_good; written = follows journal }; not_faulty = not_faulty; not_refused = not_refused }
+
+-- the length of the messages tells them apart
+pub output : OutputRow
+output = record {
+  written = record { text = no_text; run = no_sources.good false; in_form = refl; explained = refl };
+  not_a_line = λ o. let e : 1 ≡ 0 = ap length o.explained in absurd (omega (arith, e));
+}
 
 -- Room
 

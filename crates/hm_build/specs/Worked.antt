@@ -1,5 +1,5 @@
 -- Worked examples of runs and builds.
-use Rattle.std.specs.Prelude.{◌≡◌, ℕ, Bool, List, [], ◌∷◌, length, sum_by, codes}
+use Rattle.std.specs.Prelude.{◌≡◌, ℕ, Bool, false, None, List, [], ◌∷◌, length, sum_by, codes}
 use Rattle.hm_verdicts.specs.Sets.{ModuleSet}
 use Rattle.hm_verdicts.specs.Verdicts.{IsGoodIn}
 use Rattle.hm_verdicts.specs.Worked.{three_modules}
@@ -8,9 +8,12 @@ use Rattle.hm_store.specs.declared.object.Entry.{Entry}
 use Rattle.hm_store.specs.declared.object.Entry.TheVariants.{Claim, Publish, Fail, Stop}
 use Rattle.hm_build.specs.Headline.{HasVerdicts}
 use Rattle.hm_build_output.specs.JournalledRuns.{IsRun}
+use Rattle.hm_build_output.specs.Outputs.{IsOutput}
+use Rattle.hm_build_output.specs.declared.options.RunOptions.{RunOptions}
 use Rattle.hm_build_reports.specs.Journals.{MayEnd, entry_line, journal_text}
 use Rattle.hm_build_stages.specs.Rooms.{room_of}
 use Rattle.hm_run_sources.specs.declared.status.Status.TheVariants.{Good, Faulty, Refused}
+use Rattle.hm_run_sources.specs.declared.trees.Trees.TheVariants.{Left}
 
 -- The worked set: A is good, B is faulty, C imports B
 
@@ -54,6 +57,15 @@ pub record NothingRow : Type 0 where
   pub good : (journal : Bool) → IsRun 4 journal [] Good no_text
   pub not_faulty : (journal : Bool) (text : List ℕ) → ¬ (IsRun 4 journal [] Faulty text)
   pub not_refused : (journal : Bool) (text : List ℕ) → ¬ (IsRun 4 journal [] Refused text)
+
+-- four workers, no journal, no messages, and the report as text
+abbrev pub plain : RunOptions
+plain = record { options = record { workers = 4; journal = false; trees = Left }; messages = None; listed = None }
+
+-- what such a run writes of no sources. It has no message, not even an empty line
+pub record OutputRow : Type 0 where
+  pub written : IsOutput plain [] [] Good no_text []
+  pub not_a_line : ¬ (IsOutput plain [] [] Good no_text (10 ∷ []))
 
 -- Room
 

@@ -1,26 +1,24 @@
 //! Checks all modules of a set of sources with several workers, and writes the report of their verdicts.
 //!
-//! [`build`] returns the finished build. [`run`] reads sources from readers and writes the report to a writer; [`run_explained`] writes messages
-//! to a second writer as well.
+//! [`build`] returns the finished build. [`run`] reads sources from readers and writes the report to a writer; [`run_with_messages`] writes
+//! messages to a second writer as well, and can write the report as JSON objects.
 #![tactic(auto)]
 
-mod answers;
 mod building;
-mod explained_runs;
 mod gate;
 pub mod laws;
 mod limits;
-mod listed_runs;
+mod outputs;
 mod reading;
 mod running;
+mod runs_with_messages;
 mod stacks;
 mod workers;
 
 pub use building::build;
-pub use explained_runs::{Outputs, run_explained};
 pub use gate::{Gate, Open};
-pub use hm_build_messages::Explain;
-pub use hm_build_output::{Explaining, Listing, Options};
+pub use hm_build_messages::MessageOptions;
+pub use hm_build_output::{Options, RunOptions};
 pub use hm_build_stages::{BuildFault, Finished, journal_text, report};
-pub use listed_runs::run_listed;
 pub use running::run;
+pub use runs_with_messages::{Outputs, run_with_messages};

@@ -58,19 +58,13 @@ pub fn run<T: Threads + Wait + Sync, R: Read, W: Write>(
     ensures others { IfErr result (λ e. (e ≡ RunFault.Workers)
         ⊎ ((e ≡ RunFault.Read) ⊎ ((e ≡ RunFault.Write) ⊎ ((e ≡ RunFault.Memory) ⊎ ((e ≡ RunFault.NoWorker) ⊎ (e ≡ RunFault.Mixed)))))) }
 {
-    let explain = None;
+    let run_options = RunOptions {
+        options,
+        messages: None,
+        listed: None,
+    };
     let mut note = None;
-    let explained = read_and_check(
-        rt,
-        alloc,
-        readers,
-        RunOptions {
-            options,
-            explain,
-            listed: None,
-        },
-        &mut note,
-    )?;
-    write_text(writer, explained.answer.text.as_bytes())?;
-    Ok(explained.answer.status)
+    let output = read_and_check(rt, alloc, readers, run_options, &mut note)?;
+    write_text(writer, output.text.as_bytes())?;
+    Ok(output.status)
 }

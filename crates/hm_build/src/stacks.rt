@@ -1,12 +1,10 @@
 //! Runs a build on a thread whose stack is large enough for the source that nests deepest.
-ghost use Rattle.std.specs.Prelude.{◌≡◌, ◌⊎◌, ◌<◌, ◌≤◌, None, IfErr, IfOk, IfSome, map, string_bytes};
-ghost use Rattle.hm_build_messages.specs.Explained.{IsExplained, StatesExhaustion};
-ghost use Rattle.hm_build_listing.specs.Listed.{IsListed};
-ghost use Rattle.hm_build_output.specs.JournalledRuns.{IsRun};
+ghost use Rattle.std.specs.Prelude.{◌<◌, ◌≤◌, map};
+ghost use Rattle.hm_build.specs.Threads.{IsResultOf};
 
-use crate::answers::{Unanswered, build_answer};
+use crate::outputs::{NoOutput, build_output};
 use core::thread::Stack;
-use hm_build_output::{Explained, RunOptions};
+use hm_build_output::{Output, RunOptions};
 use hm_run_io::RunFault;
 use hm_run_sources::Nesting;
 use std::alloc::Global;
@@ -15,61 +13,38 @@ use std::sync::Wait;
 use std::thread;
 use std::thread::{Promise, Threads};
 
-/// What a thread promises: it returns the result of a run on these sources.
+/// What a thread promises: it returns the output of a run on these sources.
 #[derive(Drop)]
-struct RunOf {
+struct OutputOf {
     sources: Snapshot<Vec<Vec<u8>>>,
     run_options: Snapshot<RunOptions>,
 }
 
-impl Promise<Result<Explained, Unanswered>> for RunOf {
-    ghost use Rattle.std.specs.Prelude.{◌≡◌, ◌⊎◌, None, IfErr, IfOk, IfSome, map, string_bytes};
-    ghost use Rattle.hm_build_messages.specs.Explained.{IsExplained, StatesExhaustion};
-    ghost use Rattle.hm_build_listing.specs.Listed.{IsListed};
-    ghost use Rattle.hm_build_output.specs.JournalledRuns.{IsRun};
-    ghost use Rattle.hm_run_io.specs.declared.faults.RunFault.TheVariants.{Memory, NoWorker, Mixed};
+impl Promise<Result<Output, NoOutput>> for OutputOf {
+    ghost use Rattle.hm_build.specs.Threads.{IsResultOf};
+    ghost use Rattle.std.specs.Prelude.{map};
 
-    ghost kept_by = { λ p r. IfOk r (λ a. IsRun p.run_options.value.options.workers p.run_options.value.options.journal (map (λ s. s.items) p.sources.value.items) a.answer.status (string_bytes a.answer.text)) × (IfOk r (λ a. IfSome p.run_options.value.explain (λ e. IsExplained e.paint (map (λ s. s.items) e.names.items) (map (λ s. s.items) p.sources.value.items) a.answer.status (string_bytes a.answer.text) a.messages.items)) × (IfOk r (λ a. IfSome p.run_options.value.listed (λ names. IsListed (map string_bytes names.items) (map (λ s. s.items) p.sources.value.items) a.answer.status (string_bytes a.answer.text) (string_bytes a.listing))) × (IfErr r (λ e. (e.fault ≡ Memory) ⊎ ((e.fault ≡ NoWorker) ⊎ (e.fault ≡ Mixed))) × (IfErr r (λ e. IfSome e.message (λ m. IfSome p.run_options.value.explain (λ x. StatesExhaustion x.paint (map (λ s. s.items) x.names.items) (map (λ s. s.items) p.sources.value.items) m.items))) × IfErr r (λ e. (e.fault ≡ Memory) ⊎ (e.message ≡ None)))))) };
+    ghost kept_by = { λ p r. IsResultOf p.run_options.value (map (λ s. s.items) p.sources.value.items) r };
 }
 
-/// Returns what `build_answer` returns, from a new thread with a large stack.
-pub(crate) fn build_answer_on_thread<T: Threads + Wait + Sync>(
+/// Returns what `build_output` returns, from a new thread with a large stack.
+pub(crate) fn build_output_on_thread<T: Threads + Wait + Sync>(
     rt: &T,
     alloc: Global,
     sources: Vec<Vec<u8>>,
     run_options: RunOptions,
-) -> Result<Explained, Unanswered>
+) -> Result<Output, NoOutput>
     requires { (0 < run_options.options.workers) × (run_options.options.workers ≤ 16) }
-    ensures ok { IfOk result (λ a. IsRun run_options.options.workers run_options.options.journal (map (λ s.
-        s.items) sources.items) a.answer.status (string_bytes a.answer.text)) }
-    ensures told { IfOk result (λ a. IfSome run_options.explain (λ e.
-        IsExplained e.paint (map (λ s. s.items) e.names.items) (map (λ s.
-        s.items) sources.items) a.answer.status (string_bytes a.answer.text) a.messages.items)) }
-    ensures listed { IfOk result (λ a. IfSome run_options.listed (λ names. IsListed (map string_bytes names.items) (map (λ s.
-        s.items) sources.items) a.answer.status (string_bytes a.answer.text) (string_bytes a.listing))) }
-    ensures err { IfErr result (λ e. (e.fault ≡ RunFault.Memory) ⊎ ((e.fault ≡ RunFault.NoWorker) ⊎ (e.fault ≡ RunFault.Mixed))) }
-    ensures exhausted { IfErr result (λ e. IfSome e.message (λ m. IfSome run_options.explain (λ x.
-        StatesExhaustion x.paint (map (λ s. s.items) x.names.items) (map (λ s. s.items) sources.items) m.items))) }
-    ensures silent { IfErr result (λ e. (e.fault ≡ RunFault.Memory) ⊎ (e.message ≡ None)) }
+    ensures { IsResultOf run_options (map (λ s. s.items) sources.items) result }
 {
     thread::scope(
         thread::scope_env(),
         rt,
-        move |scope| -> Result<Explained, Unanswered>
+        move |scope| -> Result<Output, NoOutput>
             requires { (0 < run_options.options.workers) × (run_options.options.workers ≤ 16) }
-            ensures ok { IfOk result (λ a. IsRun run_options.options.workers run_options.options.journal (map (λ s.
-                s.items) sources.items) a.answer.status (string_bytes a.answer.text)) }
-            ensures told { IfOk result (λ a. IfSome run_options.explain (λ e.
-                IsExplained e.paint (map (λ s. s.items) e.names.items) (map (λ s.
-                s.items) sources.items) a.answer.status (string_bytes a.answer.text) a.messages.items)) }
-            ensures listed { IfOk result (λ a. IfSome run_options.listed (λ names. IsListed (map string_bytes names.items) (map (λ s.
-                s.items) sources.items) a.answer.status (string_bytes a.answer.text) (string_bytes a.listing))) }
-            ensures err { IfErr result (λ e. (e.fault ≡ RunFault.Memory) ⊎ ((e.fault ≡ RunFault.NoWorker) ⊎ (e.fault ≡ RunFault.Mixed))) }
-            ensures exhausted { IfErr result (λ e. IfSome e.message (λ m. IfSome run_options.explain (λ x.
-                StatesExhaustion x.paint (map (λ s. s.items) x.names.items) (map (λ s. s.items) sources.items) m.items))) }
-            ensures silent { IfErr result (λ e. (e.fault ≡ RunFault.Memory) ⊎ (e.message ≡ None)) }
+            ensures { IsResultOf run_options (map (λ s. s.items) sources.items) result }
         {
-            let promise = RunOf {
+            let promise = OutputOf {
                 sources: Snapshot::of(&sources),
                 run_options: Snapshot::of(&run_options),
             };
@@ -77,10 +52,10 @@ pub(crate) fn build_answer_on_thread<T: Threads + Wait + Sync>(
             let thread = Stack::new().stack_size(nesting.stack_size());
             let work = move ||
                 requires { (0 < run_options.options.workers) × (run_options.options.workers ≤ 16) }
-            { build_answer(rt, alloc, &sources, &run_options, nesting) };
+            { build_output(rt, alloc, &sources, &run_options, nesting) };
             match thread.spawn_scoped_with(scope, promise, work) {
                 Ok(builder) => builder.join(rt),
-                Err(_) => Err(Unanswered::of(RunFault::NoWorker)),
+                Err(_) => Err(NoOutput::of(RunFault::NoWorker)),
             }
         },
     )

@@ -41,7 +41,7 @@ blamed_here modules status row imports (Some b) import j name place written call
   number = j;
   imported = imported;
   named = named ∙ sym n;
-  told = subst (λ (x : List ℕ). IsStatedBy (status j) x (blamed_of b).subject) (sym n) t;
+  stated = subst (λ (x : List ℕ). IsStatedBy (status j) x (blamed_of b).subject) (sym n) t;
 }
 
 -- an element of a list doesn't go by what a longer list would have

@@ -10,7 +10,7 @@ use Rattle.hm_verdicts.specs.Verdicts.{ArePublished, Status, Published}
 use Rattle.hm_verdicts.specs.Sets.{ModuleSet}
 use Rattle.hm_names.specs.declared.faults.Fault.{Fault}
 use Rattle.hm_messages.specs.Pages.{files_in, texts_in}
-use Rattle.hm_messages.specs.declared.heading.Paint.{Paint}
+use Rattle.hm_messages.specs.declared.heading.MessageFormat.{MessageFormat}
 use Rattle.hm_messages.specs.declared.pages.Page.{Page}
 use Rattle.hm_messages.proofs.AtPage.{file_is, text_is}
 use Rattle.hm_build_messages.specs.Explanations.{AreFaultsStated, AreInTurn, IsFaultStated}
@@ -47,8 +47,8 @@ pub looked_up : (b : Build) (j : ℕ) (f : Interface) → interface_at b.kept j 
 looked_up b j f e = settled_with (kept_at b.kept j) f e
 
 -- what is told of faults by a page is told by the pages that it stands among
-pub at_page : (paint : Paint) (pages : List Page) (source : ℕ) (page : Page) (p : ModuleSet) (status : ℕ → Status) (i : ℕ) (faults : List Fault) (before after : Bool) (text : List ℕ) → source < length pages → page ≡ get_or pages source page
-    → AreInTurn (IsFaultStated paint page.file.now page.lines p status i) faults before after text → AreFaultsStated paint (files_in pages) (texts_in pages) source p status i faults before after text
-at_page paint pages source page p status i faults before after text inside is told =
-    subst (λ (s : List ℕ). AreInTurn (IsFaultStated paint (get_or (files_in pages) source []) s p status i) faults before after text) (text_is pages source page inside is)
-    (subst (λ (f : List ℕ). AreInTurn (IsFaultStated paint f page.lines p status i) faults before after text) (file_is pages source page inside is) told)
+pub at_page : (format : MessageFormat) (pages : List Page) (source : ℕ) (page : Page) (p : ModuleSet) (status : ℕ → Status) (i : ℕ) (faults : List Fault) (before after : Bool) (text : List ℕ) → source < length pages → page ≡ get_or pages source page
+    → AreInTurn (IsFaultStated format page.file.now page.lines p status i) faults before after text → AreFaultsStated format (files_in pages) (texts_in pages) source p status i faults before after text
+at_page format pages source page p status i faults before after text inside is told =
+    subst (λ (s : List ℕ). AreInTurn (IsFaultStated format (get_or (files_in pages) source []) s p status i) faults before after text) (text_is pages source page inside is)
+    (subst (λ (f : List ℕ). AreInTurn (IsFaultStated format f page.lines p status i) faults before after text) (file_is pages source page inside is) told)

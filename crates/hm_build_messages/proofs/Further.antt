@@ -5,7 +5,7 @@ use Rattle.std.specs.Prelude.{option_to_list}
 use Rattle.hm_messages.specs.FurtherFaults.{AreFirstFaults, IsFirstFault}
 use Rattle.hm_messages.specs.Messages.{AreEach}
 use Rattle.hm_messages.specs.Refused.{AreRefusalMessages}
-use Rattle.hm_messages.specs.declared.heading.Paint.{Paint}
+use Rattle.hm_messages.specs.declared.heading.MessageFormat.{MessageFormat}
 use Rattle.hm_messages.proofs.InOrder.{each_more}
 use Rattle.hm_run_sources.specs.Refusals.{Refusal}
 use Rattle.hm_build_messages.specs.FurtherStated.{IsFirstStated, IsMessageOf}
@@ -22,10 +22,10 @@ faults_more n (t ∷ ts) s faults first each h = (
   ap (λ l. l ++ option_to_list first) each.4 ∙ append_assoc (option_to_list each.0) each.1 (option_to_list first),
 )
 
-module _ (paint : Paint) (files sources : List (List ℕ)) where
+module _ (format : MessageFormat) (files sources : List (List ℕ)) where
   -- a message of a fault of one source
   abbrev pub Tells : Refusal → List ℕ → Type 0
-  Tells r t = AreRefusalMessages paint files sources r 1 t
+  Tells r t = AreRefusalMessages format files sources r 1 t
 
   -- the sources from one up to another, counted from 0, are told, with as many errors
   pub record AreStated (from to errors : ℕ) (text : List ℕ) : Type 0 where
@@ -71,8 +71,8 @@ module _ (paint : Paint) (files sources : List (List ℕ)) where
       within = omega (arith, told.within);
     }
 
-    pub told_more : (message : List ℕ) → IsFirstStated paint files sources to (Some message) → AreStated from (to + 1) (errors + 1) (text ++ message)
+    pub told_more : (message : List ℕ) → IsFirstStated format files sources to (Some message) → AreStated from (to + 1) (errors + 1) (text ++ message)
     told_more message h = with_message h.0 message h.1 h.2
 
-    pub stated_none : IsFirstStated paint files sources to None → AreStated from (to + 1) errors text
+    pub stated_none : IsFirstStated format files sources to None → AreStated from (to + 1) errors text
     stated_none h = without h.0 h.1 h.2

@@ -8,3 +8,4 @@ pub mod Starting
 pub mod Told
 pub mod Turns
 pub mod WorkedOrder
+pub mod WorkedParts

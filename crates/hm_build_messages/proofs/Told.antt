@@ -9,7 +9,7 @@ use Rattle.std.specs.declared.alloc.Global.{Global}
 use Rattle.std.specs.declared.sync.Arc.{Arc}
 use Rattle.hm_messages.specs.Headings.{count_text, further_text}
 use Rattle.hm_messages.specs.Messages.{AreEach}
-use Rattle.hm_messages.specs.declared.heading.Paint.{Paint}
+use Rattle.hm_messages.specs.declared.heading.MessageFormat.{MessageFormat}
 use Rattle.hm_messages.proofs.InOrder.{each_mapped, each_more}
 use Rattle.hm_run_sources.specs.Names.{name_below}
 use Rattle.hm_run_sources.proofs.Ordering.{sorted_map}
@@ -19,7 +19,7 @@ use Rattle.hm_syntax.specs.declared.ast.Module.{Module}
 use Rattle.hm_verdicts.specs.Reports.{is_skipped, tally}
 use Rattle.hm_verdicts.specs.Sets.{ModuleSet}
 use Rattle.hm_verdicts.specs.Verdicts.{Status}
-use Rattle.hm_build_messages.specs.Explanations.{AreErrorsStated, AreInTurn, AreNumbered, AreSkipsStated, IsSkippedStated, IsTold, Numbered, fault_count, named_of, noted_of, skipped_among}
+use Rattle.hm_build_messages.specs.Explanations.{AreErrorsStated, AreInTurn, AreNumbered, AreSkipsStated, IsSkippedStated, IsSetStated, Numbered, fault_count, named_of, noted_of, skipped_among}
 use Rattle.hm_build_reports.specs.Settling.{module_set, status_of, statuses_of}
 use Rattle.hm_build_reports.specs.declared.statuses.Settled.{Settled}
 use Rattle.hm_build_reports.specs.declared.statuses.Settled.TheVariants.{Skipped}
@@ -70,33 +70,33 @@ skipped_through status [] = refl
 skipped_through status (r ∷ rs) = onto (is_skipped (status r.number)) r (filter (λ r. is_skipped (status r.number)) rs) (skipped_among status (map named_of rs)) (skipped_through status rs)
 
 -- the first few, seen through a view
-pub first_viewed : {X Y : Type 0} (view : X → Y) (paint : Paint) (xs first : List X) (shown : ℕ) → first ≡ take shown xs → shown ≡ noted_of paint (length xs)
-    → map view first ≡ take (noted_of paint (length (map view xs))) (map view xs)
-first_viewed view paint xs first shown is many =
-    ap (map view) (is ∙ ap (λ n. take n xs) (many ∙ ap (noted_of paint) (sym (length-map xs view)))) ∙ sym (take-map view (noted_of paint (length (map view xs))) xs)
+pub first_viewed : {X Y : Type 0} (view : X → Y) (format : MessageFormat) (xs first : List X) (shown : ℕ) → first ≡ take shown xs → shown ≡ noted_of format (length xs)
+    → map view first ≡ take (noted_of format (length (map view xs))) (map view xs)
+first_viewed view format xs first shown is many =
+    ap (map view) (is ∙ ap (λ n. take n xs) (many ∙ ap (noted_of format) (sym (length-map xs view)))) ∙ sym (take-map view (noted_of format (length (map view xs))) xs)
 
 -- the notes of the first few skipped modules, and how many others there are
-pub skips_stated : (paint : Paint) (files texts : List (List ℕ)) (p : ModuleSet) (status : ℕ → Status) (rows kept first : List NumberedName) (shown : ℕ) (notes further text : List ℕ)
-    → kept ≡ filter (λ r. is_skipped (status r.number)) rows → first ≡ take shown kept → shown ≡ noted_of paint (length kept)
-    → AreEach (λ r m. IsSkippedStated paint files texts p status r.number m) first notes → further ≡ further_text paint (length kept - shown) → text ≡ notes ++ further
-    → AreSkipsStated paint files texts p status (skipped_among status (map named_of rows)) text
-skips_stated paint files texts p status rows kept first shown notes further text all some many each other whole =
+pub skips_stated : (format : MessageFormat) (files texts : List (List ℕ)) (p : ModuleSet) (status : ℕ → Status) (rows kept first : List NumberedName) (shown : ℕ) (notes further text : List ℕ)
+    → kept ≡ filter (λ r. is_skipped (status r.number)) rows → first ≡ take shown kept → shown ≡ noted_of format (length kept)
+    → AreEach (λ r m. IsSkippedStated format files texts p status r.number m) first notes → further ≡ further_text format (length kept - shown) → text ≡ notes ++ further
+    → AreSkipsStated format files texts p status (skipped_among status (map named_of rows)) text
+skips_stated format files texts p status rows kept first shown notes further text all some many each other whole =
     let seen : skipped_among status (map named_of rows) ≡ map named_of kept = skipped_through status rows ∙ ap (map named_of) (sym all) in
     let long : length kept ≡ length (map named_of kept) = sym (length-map kept named_of) in
-    let tells = λ (r : Numbered) (m : List ℕ). IsSkippedStated paint files texts p status r.number m in
-    subst (λ l. AreSkipsStated paint files texts p status l text) (sym seen) (record {
+    let tells = λ (r : Numbered) (m : List ℕ). IsSkippedStated format files texts p status r.number m in
+    subst (λ l. AreSkipsStated format files texts p status l text) (sym seen) (record {
       notes = notes;
-      noted = subst (λ l. AreEach tells l notes) (first_viewed named_of paint kept first shown some many) (each_mapped named_of tells first notes each);
-      whole = whole ∙ ap (λ l. notes ++ l) (other ∙ ap₂ (λ (m n : ℕ). further_text paint (m - n)) long (many ∙ ap (noted_of paint) long));
+      noted = subst (λ l. AreEach tells l notes) (first_viewed named_of format kept first shown some many) (each_mapped named_of tells first notes each);
+      whole = whole ∙ ap (λ l. notes ++ l) (other ∙ ap₂ (λ (m n : ℕ). further_text format (m - n)) long (many ∙ ap (noted_of format) long));
     })
 
 -- what is told of modules is told of the set that they are
-pub stated_set : (paint : Paint) (files texts : List (List ℕ)) (modules : List (Arc Module Global)) (plan : List (List ℕ)) (status : ℕ → Status) (rows sorted : List NumberedName) (count : ℕ) (limited : Bool) (errors notes text : List ℕ)
+pub stated_set : (format : MessageFormat) (files texts : List (List ℕ)) (modules : List (Arc Module Global)) (plan : List (List ℕ)) (status : ℕ → Status) (rows sorted : List NumberedName) (count : ℕ) (limited : Bool) (errors notes text : List ℕ)
     → AreNumbered (map arc_value modules) (map named_of rows) → IsPermutation rows sorted → IsSortedBy (λ x y. name_below x.name.now y.name.now) sorted
-    → AreInTurn (λ r before after m. AreErrorsStated paint files texts (module_set modules plan) status r.number before after m) sorted false limited errors
-    → AreSkipsStated paint files texts (module_set modules plan) status (skipped_among status (map named_of sorted)) notes → count ≡ length modules
-    → text ≡ errors ++ notes ++ count_text paint (min (fault_count status count) (2 ^ 64 - 1)) (tally is_skipped status count) → IsTold paint files texts (module_set modules plan) status text
-stated_set paint files texts modules plan status rows sorted count limited errors notes text numbered same ordered told noted long whole =
+    → AreInTurn (λ r before after m. AreErrorsStated format files texts (module_set modules plan) status r.number before after m) sorted false limited errors
+    → AreSkipsStated format files texts (module_set modules plan) status (skipped_among status (map named_of sorted)) notes → count ≡ length modules
+    → text ≡ errors ++ notes ++ count_text format (min (fault_count status count) (2 ^ 64 - 1)) (tally is_skipped status count) → IsSetStated format files texts (module_set modules plan) status text
+stated_set format files texts modules plan status rows sorted count limited errors notes text numbered same ordered told noted long whole =
     let size : count ≡ length (map arc_value modules) = long ∙ sym (length-map modules arc_value) in
     record {
       rows = map named_of rows;
@@ -106,14 +106,14 @@ stated_set paint files texts modules plan status rows sorted count limited error
       ordered = sorted_map named_of (λ x y. name_below x.name y.name) sorted ordered;
       errors = errors;
       limited = limited;
-      told = viewed_turn named_of (λ r before after m. AreErrorsStated paint files texts (module_set modules plan) status r.number before after m) sorted false limited errors told;
+      stated = viewed_turn named_of (λ r before after m. AreErrorsStated format files texts (module_set modules plan) status r.number before after m) sorted false limited errors told;
       notes = notes;
       noted = noted;
-      whole = whole ∙ ap (λ n. errors ++ notes ++ count_text paint (min (fault_count status n) (2 ^ 64 - 1)) (tally is_skipped status n)) size;
+      whole = whole ∙ ap (λ n. errors ++ notes ++ count_text format (min (fault_count status n) (2 ^ 64 - 1)) (tally is_skipped status n)) size;
     }
 
 -- and of the build that has these modules
-pub told_of : (paint : Paint) (files texts : List (List ℕ)) (b : Build) (modules : List (Arc Module Global)) (plan : List (List ℕ)) (status : ℕ → Status) (text : List ℕ) → map arc_value modules ≡ b.modules → plan ≡ b.given.imports → status ≡ settlement b
-    → IsTold paint files texts (module_set modules plan) status text → IsTold paint files texts (set_of b) (settlement b) text
-told_of paint files texts b modules plan status text same planned says told =
-    subst (λ s. IsTold paint files texts (set_of b) s text) says (subst (λ p. IsTold paint files texts p status text) (same_set modules plan b same planned) told)
+pub told_of : (format : MessageFormat) (files texts : List (List ℕ)) (b : Build) (modules : List (Arc Module Global)) (plan : List (List ℕ)) (status : ℕ → Status) (text : List ℕ) → map arc_value modules ≡ b.modules → plan ≡ b.given.imports → status ≡ settlement b
+    → IsSetStated format files texts (module_set modules plan) status text → IsSetStated format files texts (set_of b) (settlement b) text
+told_of format files texts b modules plan status text same planned says told =
+    subst (λ s. IsSetStated format files texts (set_of b) s text) says (subst (λ p. IsSetStated format files texts p status text) (same_set modules plan b same planned) told)

@@ -9,7 +9,7 @@ use Rattle.hm_verdicts.specs.Sets.{ModuleSet}
 use Rattle.hm_verdicts.specs.Verdicts.{Status}
 use Rattle.hm_messages.specs.Messages.{AreEach, IsFaultMessage, IsMessage}
 use Rattle.hm_messages.specs.Subjects.{limit}
-use Rattle.hm_messages.specs.declared.heading.Paint.{Paint}
+use Rattle.hm_messages.specs.declared.heading.MessageFormat.{MessageFormat}
 use Rattle.hm_build_messages.specs.Explanations.{AreInTurn, IsFaultStated, IsFaultyStated, IsLimitNote, IsNoted}
 use Rattle.hm_build_messages.specs.WorkedLimits.{IsAlone, LimitsRow}
 
@@ -54,14 +54,14 @@ viewed_turn view tells (x ∷ xs) before after text h = (h.0, h.1, h.2, h.3, vie
 -- ---- the limit's note
 
 -- nothing is told of the limit
-pub same_limit : (paint : Paint) (file source : List ℕ) (f : Fault) (b : Bool) → IsLimitNote paint file source f b b []
-same_limit paint file source f true = refl
-same_limit paint file source f false = refl
+pub same_limit : (format : MessageFormat) (file source : List ℕ) (f : Fault) (b : Bool) → IsLimitNote format file source f b b []
+same_limit format file source f true = refl
+same_limit format file source f false = refl
 
-pub limit_now : (paint : Paint) (file source : List ℕ) (f : Fault) (before after : Bool) (text : List ℕ) → before ≡ false → after ≡ true → IsMessage paint file source f.place limit text → IsLimitNote paint file source f before after text
-limit_now paint file source f false true text b a h = h
-limit_now paint file source f false false text b a h = absurd (false≢true a)
-limit_now paint file source f true after text b a h = absurd (false≢true (sym b))
+pub limit_now : (format : MessageFormat) (file source : List ℕ) (f : Fault) (before after : Bool) (text : List ℕ) → before ≡ false → after ≡ true → IsMessage format file source f.place limit text → IsLimitNote format file source f before after text
+limit_now format file source f false true text b a h = h
+limit_now format file source f false false text b a h = absurd (false≢true a)
+limit_now format file source f true after text b a h = absurd (false≢true (sym b))
 
 -- ---- behind the limit's note
 
@@ -74,32 +74,32 @@ silent_turn P Q f (x ∷ xs) after text h =
     let rest = silent_turn P Q f xs after h.1 (subst (λ (b : Bool). AreInTurn P xs b after h.1) one.0 h.4) in
     (rest.0, (h.0, h.1, one.1, rest.1, h.5))
 
-not_again : (paint : Paint) (file source : List ℕ) (f : Fault) (after : Bool) (last : List ℕ) → IsLimitNote paint file source f true after last → (after ≡ true) × (last ≡ [])
-not_again paint file source f true last h = (refl, h)
-not_again paint file source f false last h = absurd h
+not_again : (format : MessageFormat) (file source : List ℕ) (f : Fault) (after : Bool) (last : List ℕ) → IsLimitNote format file source f true after last → (after ≡ true) × (last ≡ [])
+not_again format file source f true last h = (refl, h)
+not_again format file source f false last h = absurd h
 
-alone : (paint : Paint) (file source name : List ℕ) (fs : List Interface) (f : Fault) (after : Bool) (text : List ℕ) → IsNoted paint file source name fs f true after text → (after ≡ true) × IsAlone paint file source f text
-alone paint file source name fs f after text h =
-    let again = not_again paint file source f after h.last h.limited in
+alone : (format : MessageFormat) (file source name : List ℕ) (fs : List Interface) (f : Fault) (after : Bool) (text : List ℕ) → IsNoted format file source name fs f true after text → (after ≡ true) × IsAlone format file source f text
+alone format file source name fs f after text h =
+    let again = not_again format file source f after h.last h.limited in
     let is : text ≡ h.message = h.whole ∙ (ap (λ (l : List ℕ). (h.message ++ h.notes) ++ l) again.1 ∙ (append-nil (h.message ++ h.notes) ∙ (ap (λ (l : List ℕ). h.message ++ l) (h.silent refl) ∙ append-nil h.message))) in
-    (again.0, (nothing, subst (IsFaultMessage paint file source f nothing) (sym is) h.says))
+    (again.0, (nothing, subst (IsFaultMessage format file source f nothing) (sym is) h.says))
 
-fault_alone : (paint : Paint) (file source : List ℕ) (p : ModuleSet) (status : ℕ → Status) (i : ℕ) (f : Fault) (after : Bool) (text : List ℕ) → IsFaultStated paint file source p status i f true after text → (after ≡ true) × IsAlone paint file source f text
-fault_alone paint file source p status i f after text (inl h) = (h.0, (h.1.known, h.1.told))
-fault_alone paint file source p status i f after text (inr h) = alone paint file source _ h.0 f after text h.2
+fault_alone : (format : MessageFormat) (file source : List ℕ) (p : ModuleSet) (status : ℕ → Status) (i : ℕ) (f : Fault) (after : Bool) (text : List ℕ) → IsFaultStated format file source p status i f true after text → (after ≡ true) × IsAlone format file source f text
+fault_alone format file source p status i f after text (inl h) = (h.0, (h.1.known, h.1.stated))
+fault_alone format file source p status i f after text (inr h) = alone format file source _ h.0 f after text h.2
 
-told_once : (paint : Paint) (files texts : List (List ℕ)) (source : ℕ) (p : ModuleSet) (status : ℕ → Status) (i : ℕ) (faults : List Fault) (after : Bool) (text : List ℕ)
-    → IsFaultyStated paint files texts source p status i faults true after text → (after ≡ true) × AreEach (IsAlone paint (get_or files source []) (get_or texts source [])) faults text
-told_once paint files texts source p status i faults after text h =
+told_once : (format : MessageFormat) (files texts : List (List ℕ)) (source : ℕ) (p : ModuleSet) (status : ℕ → Status) (i : ℕ) (faults : List Fault) (after : Bool) (text : List ℕ)
+    → IsFaultyStated format files texts source p status i faults true after text → (after ≡ true) × AreEach (IsAlone format (get_or files source []) (get_or texts source [])) faults text
+told_once format files texts source p status i faults after text h =
     let file = get_or files source [] in
     let lines = get_or texts source [] in
-    let rest = silent_turn (IsFaultStated paint file lines p status i) (IsAlone paint file lines) (λ f c t k. fault_alone paint file lines p status i f c t k) faults after h.messages h.told in
+    let rest = silent_turn (IsFaultStated format file lines p status i) (IsAlone format file lines) (λ f c t k. fault_alone format file lines p status i f c t k) faults after h.messages h.stated in
     let is : text ≡ h.messages = h.whole ∙ (ap (λ (l : List ℕ). h.messages ++ l) (h.silent rest.0) ∙ append-nil h.messages) in
-    (rest.0, subst (AreEach (IsAlone paint file lines) faults) (sym is) rest.1)
+    (rest.0, subst (AreEach (IsAlone format file lines) faults) (sym is) rest.1)
 
 pub worked_limits : LimitsRow
 worked_limits = record {
   once = told_once;
-  quiet = λ paint file source f. refl;
-  again = λ paint file source f text h. h;
+  quiet = λ format file source f. refl;
+  again = λ format file source f text h. h;
 }

@@ -5,3 +5,4 @@ pub mod Jointly
 pub mod PartMessages
 pub mod WorkedLimits
 pub mod WorkedOrder
+pub mod WorkedParts

@@ -2,7 +2,7 @@
 use Rattle.std.specs.Prelude.{◌≡◌, ℕ, List, [], ◌∷◌}
 use Rattle.hm_names.specs.declared.faults.Fault.{Fault}
 use Rattle.hm_verdicts.specs.Verdicts.{Status, Failed, Skipped}
-use Rattle.hm_messages.specs.declared.heading.Paint.TheVariants.{Plain, Json}
+use Rattle.hm_messages.specs.declared.heading.MessageFormat.TheVariants.{Plain, Json}
 use Rattle.hm_build_messages.specs.Explanations.{Numbered, noted_of, skipped_among}
 
 -- of three modules the first and the last are skipped, and the second is faulty. The two have notes, in this order, and the faulty one has none.

@@ -40,7 +40,7 @@ pub(crate) fn cause_note(
     effort: &mut Effort,
 ) -> Result<Option<Vec<u8>>, AllocError>
     requires { «module».now.question.now.source.now ≡ «module».now.page.now.lines }
-    ensures { IfOk result (λ note. IfSome note (λ text. IsCauseNote «module».now.paint «module».now.page.now.file.now «module».now.page.now.lines
+    ensures { IfOk result (λ note. IfSome note (λ text. IsCauseNote «module».now.format «module».now.page.now.file.now «module».now.page.now.lines
         «module».now.question.now.name.now (map arc_value «module».now.question.now.imports.now) found.now.fault.now text.items)) }
 {
     let Some(cause) = cause_for(alloc, module, found, effort) else {

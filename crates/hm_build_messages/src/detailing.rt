@@ -16,7 +16,7 @@ ghost use Rattle.hm_verdicts.specs.Verdicts.{ArePublished};
 
 use crate::faulty::{Allowance, noted_messages};
 use crate::view::{BuildView, Faulty, FaultyModule};
-use hm_messages::{Page, Paint, fault_message};
+use hm_messages::{MessageFormat, Page, fault_message};
 use hm_messages_details::{Detail, Site, detail_of};
 use hm_messages_trials::Question;
 use hm_names::{Fault, Kind, NO_SYNONYMS};
@@ -73,15 +73,15 @@ fn have_details(faults: &[Fault]) -> bool {
 /// Returns the messages of faults without details.
 fn plain_messages(
     alloc: Global,
-    paint: Paint,
+    format: MessageFormat,
     page: &Page<'_>,
     faults: &[Fault],
 ) -> Result<Vec<u8>, AllocError>
-    ensures { IfOk result (λ text. AreEach (IsDetailed paint page.now.file.now page.now.lines (λ f known. known ≡ nothing)) faults.now text.items) }
+    ensures { IfOk result (λ text. AreEach (IsDetailed format page.now.file.now page.now.lines (λ f known. known ≡ nothing)) faults.now text.items) }
 {
     let mut text = Vec::new(alloc);
     for fault in faults {
-        let message = fault_message(alloc, paint, page, fault, Detail::Nothing)?;
+        let message = fault_message(alloc, format, page, fault, Detail::Nothing)?;
         text.extend_from_slice(message.as_slice())?;
     }
     Ok(text)
@@ -94,8 +94,8 @@ fn detail_at<'s>(
     index: usize,
     fault: &Fault,
 ) -> Result<Detail<'s>, AllocError>
-    ensures { IfOk result (λ detail. (fs : List Interface) → IsScopeOf site.now.program.now fs site.now.scope.now → AreTablesOf site.now.program.now fs site.now.tables.now
-        → IsKnown site.now.program.now fs fault.now (known_of detail)) }
+    ensures { IfOk result (λ detail. (fs : List Interface) → fs ≡ map (λ f. f.now) site.now.interfaces.now → IsScopeOf site.now.program.now fs site.now.scope.now
+        → AreTablesOf site.now.program.now fs site.now.tables.now → IsKnown site.now.program.now fs fault.now (known_of detail)) }
 {
     if index >= MOST_SEARCHES {
         return Ok(Detail::Nothing);
@@ -106,19 +106,19 @@ fn detail_at<'s>(
 /// Returns the messages of the faults of a module with this scope and these tables.
 fn detailed_messages(
     alloc: Global,
-    paint: Paint,
+    format: MessageFormat,
     page: &Page<'_>,
     site: &Site<'_, '_, '_>,
     faults: &[Fault],
 ) -> Result<Vec<u8>, AllocError>
-    ensures { IfOk result (λ text. (fs : List Interface) → IsScopeOf site.now.program.now fs site.now.scope.now → AreTablesOf site.now.program.now fs site.now.tables.now
-        → AreEach (IsDetailed paint page.now.file.now page.now.lines (IsKnown site.now.program.now fs)) faults.now text.items) }
+    ensures { IfOk result (λ text. (fs : List Interface) → fs ≡ map (λ f. f.now) site.now.interfaces.now → IsScopeOf site.now.program.now fs site.now.scope.now
+        → AreTablesOf site.now.program.now fs site.now.tables.now → AreEach (IsDetailed format page.now.file.now page.now.lines (IsKnown site.now.program.now fs)) faults.now text.items) }
 {
     let mut text = Vec::new(alloc);
     for index in 0..faults.len() {
         let fault = &faults[index];
         let detail = detail_at(alloc, site, index, fault)?;
-        let message = fault_message(alloc, paint, page, fault, detail)?;
+        let message = fault_message(alloc, format, page, fault, detail)?;
         text.extend_from_slice(message.as_slice())?;
     }
     Ok(text)
@@ -135,42 +135,43 @@ struct ScopedModule<'r, 'a> {
 /// Returns the messages of the faults of a module with this scope.
 fn scoped_messages(
     alloc: Global,
-    paint: Paint,
+    format: MessageFormat,
     page: &Page<'_>,
     scoped: &ScopedModule<'_, '_>,
     faults: &[Fault],
 ) -> Result<Vec<u8>, AllocError>
     requires { IsScopeOf scoped.now.program.now (map (λ f. f.now) scoped.now.interfaces.now) scoped.now.scope.now }
-    ensures { IfOk result (λ text. AreEach (IsDetailed paint page.now.file.now page.now.lines (IsKnown scoped.now.program.now (map (λ f. f.now) scoped.now.interfaces.now)))
+    ensures { IfOk result (λ text. AreEach (IsDetailed format page.now.file.now page.now.lines (IsKnown scoped.now.program.now (map (λ f. f.now) scoped.now.interfaces.now)))
         faults.now text.items) }
 {
     let tables = Tables::of(alloc, scoped.program, scoped.interfaces, NO_SYNONYMS)?;
     let site = Site {
         program: scoped.program,
+        interfaces: scoped.interfaces,
         scope: scoped.scope,
         tables: &tables,
     };
-    Ok(detailed_messages(alloc, paint, page, &site, faults)?)
+    Ok(detailed_messages(alloc, format, page, &site, faults)?)
 }
 
 /// Returns the messages of the faults of a module with these imports.
 fn searched_messages(
     alloc: Global,
-    told: &BuildView<'_, '_, '_>,
+    view: &BuildView<'_, '_, '_>,
     page: &Page<'_>,
     faulty: Faulty<'_>,
     imports: &[Arc<ModuleInterface>],
 ) -> Result<Vec<u8>, AllocError>
-    requires { faulty.number < length told.now.modules.now }
-    ensures { IfOk result (λ text. AreEach (IsDetailed told.now.pages.now.paint page.now.file.now page.now.lines
-        (IsKnown (module_at (module_set told.now.modules.now told.now.plan.now) faulty.entry.number) (prelude_interface ∷ map arc_value imports.now)))
+    requires { faulty.number < length view.now.modules.now }
+    ensures { IfOk result (λ text. AreEach (IsDetailed view.now.pages.now.format page.now.file.now page.now.lines
+        (IsKnown (module_at (module_set view.now.modules.now view.now.plan.now) faulty.entry.number) (prelude_interface ∷ map arc_value imports.now)))
         faulty.entry.faults.now text.items) }
 {
-    let module: &Module = &told.modules[faulty.number];
+    let module: &Module = &view.modules[faulty.number];
     if !are_imports_of(alloc, module, imports)? {
-        return Ok(plain_messages(alloc, told.pages.paint, page, faulty.faults)?);
+        return Ok(plain_messages(alloc, view.pages.format, page, faulty.faults)?);
     }
-    let prelude: &ModuleInterface = told.prelude.interface();
+    let prelude: &ModuleInterface = view.prelude.interface();
     let scope = scope_of(alloc, module, prelude, imports)?;
     let interfaces = interfaces_of(alloc, prelude, imports)?;
     let scoped = ScopedModule {
@@ -178,41 +179,41 @@ fn searched_messages(
         interfaces: interfaces.as_slice(),
         scope: &scope,
     };
-    Ok(scoped_messages(alloc, told.pages.paint, page, &scoped, faulty.faults)?)
+    Ok(scoped_messages(alloc, view.pages.format, page, &scoped, faulty.faults)?)
 }
 
 /// Returns the messages of the faults of a module: with details of names from its scope, or with notes.
 pub(crate) fn faulty_messages(
     alloc: Global,
-    told: &BuildView<'_, '_, '_>,
+    view: &BuildView<'_, '_, '_>,
     faulty: Faulty<'_>,
     allowance: &mut Allowance,
 ) -> Result<Vec<u8>, AllocError>
-    requires lawful { IsLawfulSet (module_set told.now.modules.now told.now.plan.now) }
-    requires number { faulty.number < length told.now.modules.now }
-    requires source { faulty.source < length told.now.pages.now.items.items }
-    requires settled { statuses_of told.now.settled.now ≡ settlement told.now.store.now }
-    ensures { IfOk result (λ text. AreFaultsStated told.now.pages.now.paint (files_in told.now.pages.now.items.items) (texts_in told.now.pages.now.items.items)
-        faulty.entry.source (module_set told.now.modules.now told.now.plan.now) (statuses_of told.now.settled.now) faulty.entry.number faulty.entry.faults.now
+    requires lawful { IsLawfulSet (module_set view.now.modules.now view.now.plan.now) }
+    requires number { faulty.number < length view.now.modules.now }
+    requires source { faulty.source < length view.now.pages.now.items.items }
+    requires settled { statuses_of view.now.settled.now ≡ settlement view.now.store.now }
+    ensures { IfOk result (λ text. AreFaultsStated view.now.pages.now.format (files_in view.now.pages.now.items.items) (texts_in view.now.pages.now.items.items)
+        faulty.entry.source (module_set view.now.modules.now view.now.plan.now) (statuses_of view.now.settled.now) faulty.entry.number faulty.entry.faults.now
         allowance.old.is_limit_stated allowance.new.is_limit_stated text.items) }
 {
-    let page = &told.pages.items[faulty.source];
-    let paint = told.pages.paint;
-    let module = &told.modules[faulty.number];
-    let Some(imports) = published(alloc, told.store, told.plan.imports(faulty.number))? else {
-        return Ok(plain_messages(alloc, paint, page, faulty.faults)?);
+    let page = &view.pages.items[faulty.source];
+    let format = view.pages.format;
+    let module = &view.modules[faulty.number];
+    let Some(imports) = published(alloc, view.store, view.plan.imports(faulty.number))? else {
+        return Ok(plain_messages(alloc, format, page, faulty.faults)?);
     };
     if have_details(faulty.faults) {
-        return Ok(searched_messages(alloc, told, page, faulty, imports.as_slice())?);
+        return Ok(searched_messages(alloc, view, page, faulty, imports.as_slice())?);
     }
     let question = Question {
         source: page.lines.source(),
         name: module.header.name.as_str(),
         imports: imports.as_slice(),
-        prelude: told.prelude,
+        prelude: view.prelude,
     };
     let module = FaultyModule {
-        paint,
+        format,
         page,
         question: &question,
         faults: faulty.faults,

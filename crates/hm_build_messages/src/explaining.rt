@@ -8,7 +8,7 @@ ghost use Rattle.hm_run_sources.specs.Origins.{HaveOrigins, IsSpelledBy};
 ghost use Rattle.hm_verdicts.specs.Sets.{IsLawfulSet, no_module};
 ghost use Rattle.hm_verdicts.specs.Reports.{is_skipped, tally};
 ghost use Rattle.hm_syntax.specs.declared.ast.Import.{Import as ImportTree};
-ghost use Rattle.hm_build_messages.specs.Explanations.{AreBlamesStated, AreErrorsStated, AreInTurn, AreNumbered, IsBlameMessage, IsBlamedBy, AreSkipsStated, IsSkippedStated, IsTold, IsStatedBy, blamed_of, fault_count, named_of, noted_of as noted_bytes, skipped_among};
+ghost use Rattle.hm_build_messages.specs.Explanations.{AreBlamesStated, AreErrorsStated, AreInTurn, AreNumbered, IsBlameMessage, IsBlamedBy, AreSkipsStated, IsSkippedStated, IsSetStated, IsStatedBy, blamed_of, fault_count, named_of, noted_of as noted_bytes, skipped_among};
 ghost use Rattle.hm_store.specs.Settlements.{settlement as build_settlement};
 ghost use Rattle.hm_build_reports.specs.ReportBlocks.{all_blamed, blamed};
 ghost use Rattle.hm_build_reports.specs.Settling.{module_set, status_of as settlement, statuses_of};
@@ -18,7 +18,7 @@ use crate::hidden::all_messages;
 use crate::view::{BuildView, Faulty};
 use hm_build_reports::Settled;
 use hm_lex::Place;
-use hm_messages::{Page, Pages, Paint, Topic, count_text, further_text, message};
+use hm_messages::{MessageFormat, Page, Pages, Topic, count_text, further_text, message};
 use hm_syntax::{Import, Module};
 use std::alloc::{AllocError, Global};
 use std::sync::Arc;
@@ -28,13 +28,13 @@ const MOST_NOTED: usize = 8;
 
 // Why: docs/DECISIONS.md, "Many skipped modules".
 /// Returns how many of so many are shown.
-fn noted_of(paint: Paint, count: usize) -> usize
-    ensures number { result ≡ noted_bytes paint count }
+fn noted_of(format: MessageFormat, count: usize) -> usize
+    ensures number { result ≡ noted_bytes format count }
     ensures within { result ≤ count }
 {
-    match paint {
-        Paint::Plain | Paint::Coloured => count.min(MOST_NOTED),
-        Paint::Json => count,
+    match format {
+        MessageFormat::Plain | MessageFormat::Coloured => count.min(MOST_NOTED),
+        MessageFormat::Json => count,
     }
 }
 
@@ -99,7 +99,7 @@ fn blame_of<'a>(name: &'a str, place: Place, settled: &Settled<'_>) -> Option<Bl
     ensures names { map (λ b. b.name.now) (option_to_list result) ≡ blamed (settlement settled.now) name.entry.now }
     ensures name { IfSome result (λ b. b.name.now ≡ name.entry.now) }
     ensures place { IfSome result (λ b. b.place ≡ place) }
-    ensures told { IfSome result (λ b. IsStatedBy (settlement settled.now) name.entry.now (blamed_of b).subject) }
+    ensures stated { IfSome result (λ b. IsStatedBy (settlement settled.now) name.entry.now (blamed_of b).subject) }
 {
     match settled {
         Settled::Published(_) => None,
@@ -160,14 +160,14 @@ fn blame_message(
     page: &Page<'_>,
     blame: &Blame<'_>,
 ) -> Result<Vec<u8>, AllocError>
-    ensures { IfOk result (λ text. IsBlameMessage pages.now.paint page.now.file.now page.now.lines (blamed_of blame.now) text.items) }
+    ensures { IfOk result (λ text. IsBlameMessage pages.now.format page.now.file.now page.now.lines (blamed_of blame.now) text.items) }
 {
     if blame.is_faulty {
         let topic = Topic::Faulty(blame.name);
-        Ok(message(alloc, pages.paint, page, blame.place, &topic)?)
+        Ok(message(alloc, pages.format, page, blame.place, &topic)?)
     } else {
         let topic = Topic::Skipped(blame.name);
-        Ok(message(alloc, pages.paint, page, blame.place, &topic)?)
+        Ok(message(alloc, pages.format, page, blame.place, &topic)?)
     }
 }
 
@@ -179,7 +179,7 @@ fn blame_messages(
     page: &Page<'_>,
     blames: &[Blame<'_>],
 ) -> Result<Vec<u8>, AllocError>
-    ensures { IfOk result (λ text. AreEach (IsBlameMessage pages.now.paint page.now.file.now page.now.lines) (map blamed_of blames.now) text.items) }
+    ensures { IfOk result (λ text. AreEach (IsBlameMessage pages.now.format page.now.file.now page.now.lines) (map blamed_of blames.now) text.items) }
 {
     let mut text = Vec::new(alloc);
     for blame in blames {
@@ -190,67 +190,67 @@ fn blame_messages(
 }
 
 /// Returns the number of the source that spells a module.
-fn source_of(told: &BuildView<'_, '_, '_>, number: usize) -> usize
-    requires origins { HaveOrigins (texts_in told.now.pages.now.items.items) (length told.now.modules.now) told.now.origins.now }
-    requires number { number < length told.now.modules.now }
-    ensures spelled { IsSpelledBy (texts_in told.now.pages.now.items.items) number result }
-    ensures within { result < length told.now.pages.now.items.items }
+fn source_of(view: &BuildView<'_, '_, '_>, number: usize) -> usize
+    requires origins { HaveOrigins (texts_in view.now.pages.now.items.items) (length view.now.modules.now) view.now.origins.now }
+    requires number { number < length view.now.modules.now }
+    ensures spelled { IsSpelledBy (texts_in view.now.pages.now.items.items) number result }
+    ensures within { result < length view.now.pages.now.items.items }
 {
-    told.origins[number]
+    view.origins[number]
 }
 
 /// Returns the messages of a skipped module that this source spells.
 fn skipped_messages(
     alloc: Global,
-    told: &BuildView<'_, '_, '_>,
+    view: &BuildView<'_, '_, '_>,
     number: usize,
     source: usize,
 ) -> Result<Vec<u8>, AllocError>
-    requires lawful { IsLawfulSet (module_set told.now.modules.now told.now.plan.now) }
-    requires len { length told.now.settled.now ≡ length told.now.modules.now }
-    requires number { number < length told.now.modules.now }
-    requires source { source < length told.now.pages.now.items.items }
-    ensures { IfOk result (λ text. AreBlamesStated told.now.pages.now.paint (files_in told.now.pages.now.items.items)
-        (texts_in told.now.pages.now.items.items) source
-        (module_set told.now.modules.now told.now.plan.now) (statuses_of told.now.settled.now) number text.items) }
+    requires lawful { IsLawfulSet (module_set view.now.modules.now view.now.plan.now) }
+    requires len { length view.now.settled.now ≡ length view.now.modules.now }
+    requires number { number < length view.now.modules.now }
+    requires source { source < length view.now.pages.now.items.items }
+    ensures { IfOk result (λ text. AreBlamesStated view.now.pages.now.format (files_in view.now.pages.now.items.items)
+        (texts_in view.now.pages.now.items.items) source
+        (module_set view.now.modules.now view.now.plan.now) (statuses_of view.now.settled.now) number text.items) }
 {
-    let imports = told.modules[number].header.imports.as_slice();
-    let row = told.plan.imports(number);
-    let mut blames = blames_of(alloc, told.modules, told.settled, row, imports)?;
+    let imports = view.modules[number].header.imports.as_slice();
+    let row = view.plan.imports(number);
+    let mut blames = blames_of(alloc, view.modules, view.settled, row, imports)?;
     blames.sort_by_key(|blame| blame.name)?;
-    let page = &told.pages.items[source];
-    let shown = noted_of(told.pages.paint, blames.len());
+    let page = &view.pages.items[source];
+    let shown = noted_of(view.pages.format, blames.len());
     let first = &blames.as_slice()[..shown];
-    Ok(blame_messages(alloc, told.pages, page, first)?)
+    Ok(blame_messages(alloc, view.pages, page, first)?)
 }
 
 /// Returns the messages of a module if it is faulty.
 fn errors_of(
     alloc: Global,
-    told: &BuildView<'_, '_, '_>,
+    view: &BuildView<'_, '_, '_>,
     number: usize,
     allowance: &mut Allowance,
 ) -> Result<Vec<u8>, AllocError>
-    requires lawful { IsLawfulSet (module_set told.now.modules.now told.now.plan.now) }
-    requires len { length told.now.settled.now ≡ length told.now.modules.now }
-    requires number { number < length told.now.modules.now }
-    requires origins { HaveOrigins (texts_in told.now.pages.now.items.items) (length told.now.modules.now) told.now.origins.now }
-    requires settled { statuses_of told.now.settled.now ≡ build_settlement told.now.store.now }
-    ensures { IfOk result (λ text. AreErrorsStated told.now.pages.now.paint (files_in told.now.pages.now.items.items) (texts_in told.now.pages.now.items.items)
-        (module_set told.now.modules.now told.now.plan.now) (statuses_of told.now.settled.now) number allowance.old.is_limit_stated
+    requires lawful { IsLawfulSet (module_set view.now.modules.now view.now.plan.now) }
+    requires len { length view.now.settled.now ≡ length view.now.modules.now }
+    requires number { number < length view.now.modules.now }
+    requires origins { HaveOrigins (texts_in view.now.pages.now.items.items) (length view.now.modules.now) view.now.origins.now }
+    requires settled { statuses_of view.now.settled.now ≡ build_settlement view.now.store.now }
+    ensures { IfOk result (λ text. AreErrorsStated view.now.pages.now.format (files_in view.now.pages.now.items.items) (texts_in view.now.pages.now.items.items)
+        (module_set view.now.modules.now view.now.plan.now) (statuses_of view.now.settled.now) number allowance.old.is_limit_stated
         allowance.new.is_limit_stated text.items) }
 {
-    match &told.settled[number] {
+    match &view.settled[number] {
         Settled::Published(_) => Ok(Vec::new(alloc)),
         Settled::Failed(faults) => {
-            let source = source_of(told, number);
+            let source = source_of(view, number);
             let faults = faults.as_slice();
             let faulty = Faulty {
                 number,
                 source,
                 faults,
             };
-            Ok(all_messages(alloc, told, faulty, allowance)?)
+            Ok(all_messages(alloc, view, faulty, allowance)?)
         }
         Settled::Skipped => Ok(Vec::new(alloc)),
     }
@@ -325,22 +325,22 @@ fn skipped_rows<'a>(
 /// Returns the messages of the faulty modules among these, in order.
 fn error_messages(
     alloc: Global,
-    told: &BuildView<'_, '_, '_>,
+    view: &BuildView<'_, '_, '_>,
     rows: &[NumberedName<'_>],
 ) -> Result<Vec<u8>, AllocError>
-    requires lawful { IsLawfulSet (module_set told.now.modules.now told.now.plan.now) }
-    requires len { length told.now.settled.now ≡ length told.now.modules.now }
-    requires origins { HaveOrigins (texts_in told.now.pages.now.items.items) (length told.now.modules.now) told.now.origins.now }
-    requires settled { statuses_of told.now.settled.now ≡ build_settlement told.now.store.now }
-    requires rows { All (λ r. r.number < length told.now.modules.now) rows.now }
-    ensures { IfOk result (λ text. (limited : Bool) × AreInTurn (λ r before after m. AreErrorsStated told.now.pages.now.paint
-        (files_in told.now.pages.now.items.items) (texts_in told.now.pages.now.items.items) (module_set told.now.modules.now told.now.plan.now)
-        (statuses_of told.now.settled.now) r.number before after m) rows.now false limited text.items) }
+    requires lawful { IsLawfulSet (module_set view.now.modules.now view.now.plan.now) }
+    requires len { length view.now.settled.now ≡ length view.now.modules.now }
+    requires origins { HaveOrigins (texts_in view.now.pages.now.items.items) (length view.now.modules.now) view.now.origins.now }
+    requires settled { statuses_of view.now.settled.now ≡ build_settlement view.now.store.now }
+    requires rows { All (λ r. r.number < length view.now.modules.now) rows.now }
+    ensures { IfOk result (λ text. (limited : Bool) × AreInTurn (λ r before after m. AreErrorsStated view.now.pages.now.format
+        (files_in view.now.pages.now.items.items) (texts_in view.now.pages.now.items.items) (module_set view.now.modules.now view.now.plan.now)
+        (statuses_of view.now.settled.now) r.number before after m) rows.now false limited text.items) }
 {
     let mut allowance = Allowance::of_run();
     let mut text = Vec::new(alloc);
     for row in rows {
-        let messages = errors_of(alloc, told, row.number, &mut allowance)?;
+        let messages = errors_of(alloc, view, row.number, &mut allowance)?;
         text.extend_from_slice(messages.as_slice())?;
     }
     Ok(text)
@@ -349,21 +349,21 @@ fn error_messages(
 /// Returns the notes of these skipped modules, in order.
 fn skipped_notes(
     alloc: Global,
-    told: &BuildView<'_, '_, '_>,
+    view: &BuildView<'_, '_, '_>,
     rows: &[NumberedName<'_>],
 ) -> Result<Vec<u8>, AllocError>
-    requires lawful { IsLawfulSet (module_set told.now.modules.now told.now.plan.now) }
-    requires len { length told.now.settled.now ≡ length told.now.modules.now }
-    requires origins { HaveOrigins (texts_in told.now.pages.now.items.items) (length told.now.modules.now) told.now.origins.now }
-    requires rows { All (λ r. r.number < length told.now.modules.now) rows.now }
-    ensures { IfOk result (λ text. AreEach (λ r m. IsSkippedStated told.now.pages.now.paint (files_in told.now.pages.now.items.items)
-        (texts_in told.now.pages.now.items.items) (module_set told.now.modules.now told.now.plan.now) (statuses_of told.now.settled.now) r.number m)
+    requires lawful { IsLawfulSet (module_set view.now.modules.now view.now.plan.now) }
+    requires len { length view.now.settled.now ≡ length view.now.modules.now }
+    requires origins { HaveOrigins (texts_in view.now.pages.now.items.items) (length view.now.modules.now) view.now.origins.now }
+    requires rows { All (λ r. r.number < length view.now.modules.now) rows.now }
+    ensures { IfOk result (λ text. AreEach (λ r m. IsSkippedStated view.now.pages.now.format (files_in view.now.pages.now.items.items)
+        (texts_in view.now.pages.now.items.items) (module_set view.now.modules.now view.now.plan.now) (statuses_of view.now.settled.now) r.number m)
         rows.now text.items) }
 {
     let mut text = Vec::new(alloc);
     for row in rows {
-        let source = source_of(told, row.number);
-        let notes = skipped_messages(alloc, told, row.number, source)?;
+        let source = source_of(view, row.number);
+        let notes = skipped_messages(alloc, view, row.number, source)?;
         text.extend_from_slice(notes.as_slice())?;
     }
     Ok(text)
@@ -372,23 +372,23 @@ fn skipped_notes(
 /// Returns the notes of the skipped modules among these, in order, and the line about those that have none.
 fn all_notes(
     alloc: Global,
-    told: &BuildView<'_, '_, '_>,
+    view: &BuildView<'_, '_, '_>,
     rows: &[NumberedName<'_>],
 ) -> Result<Vec<u8>, AllocError>
-    requires lawful { IsLawfulSet (module_set told.now.modules.now told.now.plan.now) }
-    requires len { length told.now.settled.now ≡ length told.now.modules.now }
-    requires origins { HaveOrigins (texts_in told.now.pages.now.items.items) (length told.now.modules.now) told.now.origins.now }
-    requires rows { All (λ r. r.number < length told.now.modules.now) rows.now }
-    ensures { IfOk result (λ text. AreSkipsStated told.now.pages.now.paint (files_in told.now.pages.now.items.items) (texts_in told.now.pages.now.items.items)
-        (module_set told.now.modules.now told.now.plan.now) (statuses_of told.now.settled.now)
-        (skipped_among (statuses_of told.now.settled.now) (map named_of rows.now)) text.items) }
+    requires lawful { IsLawfulSet (module_set view.now.modules.now view.now.plan.now) }
+    requires len { length view.now.settled.now ≡ length view.now.modules.now }
+    requires origins { HaveOrigins (texts_in view.now.pages.now.items.items) (length view.now.modules.now) view.now.origins.now }
+    requires rows { All (λ r. r.number < length view.now.modules.now) rows.now }
+    ensures { IfOk result (λ text. AreSkipsStated view.now.pages.now.format (files_in view.now.pages.now.items.items) (texts_in view.now.pages.now.items.items)
+        (module_set view.now.modules.now view.now.plan.now) (statuses_of view.now.settled.now)
+        (skipped_among (statuses_of view.now.settled.now) (map named_of rows.now)) text.items) }
 {
-    let paint = told.pages.paint;
-    let skips = skipped_rows(alloc, told.settled, rows)?;
-    let shown = noted_of(paint, skips.len());
+    let format = view.pages.format;
+    let skips = skipped_rows(alloc, view.settled, rows)?;
+    let shown = noted_of(format, skips.len());
     let first = &skips.as_slice()[..shown];
-    let mut text = skipped_notes(alloc, told, first)?;
-    let further = further_text(alloc, paint, skips.len() - shown)?;
+    let mut text = skipped_notes(alloc, view, first)?;
+    let further = further_text(alloc, format, skips.len() - shown)?;
     text.extend_from_slice(further.as_bytes())?;
     Ok(text)
 }
@@ -397,24 +397,24 @@ fn all_notes(
 /// Returns the messages of all faulty modules, in the order of their names, then the notes of the skipped modules in the same order, and the counts.
 pub fn explanation(
     alloc: Global,
-    told: &BuildView<'_, '_, '_>,
+    view: &BuildView<'_, '_, '_>,
     skipped: usize,
 ) -> Result<Vec<u8>, AllocError>
-    requires lawful { IsLawfulSet (module_set told.now.modules.now told.now.plan.now) }
-    requires len { length told.now.settled.now ≡ length told.now.modules.now }
-    requires origins { HaveOrigins (texts_in told.now.pages.now.items.items) (length told.now.modules.now) told.now.origins.now }
-    requires settled { statuses_of told.now.settled.now ≡ build_settlement told.now.store.now }
-    requires skipped { skipped ≡ tally is_skipped (statuses_of told.now.settled.now) (length told.now.settled.now) }
-    ensures { IfOk result (λ text. IsTold told.now.pages.now.paint (files_in told.now.pages.now.items.items) (texts_in told.now.pages.now.items.items)
-        (module_set told.now.modules.now told.now.plan.now) (statuses_of told.now.settled.now) text.items) }
+    requires lawful { IsLawfulSet (module_set view.now.modules.now view.now.plan.now) }
+    requires len { length view.now.settled.now ≡ length view.now.modules.now }
+    requires origins { HaveOrigins (texts_in view.now.pages.now.items.items) (length view.now.modules.now) view.now.origins.now }
+    requires settled { statuses_of view.now.settled.now ≡ build_settlement view.now.store.now }
+    requires skipped { skipped ≡ tally is_skipped (statuses_of view.now.settled.now) (length view.now.settled.now) }
+    ensures { IfOk result (λ text. IsSetStated view.now.pages.now.format (files_in view.now.pages.now.items.items) (texts_in view.now.pages.now.items.items)
+        (module_set view.now.modules.now view.now.plan.now) (statuses_of view.now.settled.now) text.items) }
 {
-    let mut rows = numbered(alloc, told.modules)?;
+    let mut rows = numbered(alloc, view.modules)?;
     rows.sort_by_key(|row| row.name)?;
     let order = rows.as_slice();
-    let mut text = error_messages(alloc, told, order)?;
-    let notes = all_notes(alloc, told, order)?;
+    let mut text = error_messages(alloc, view, order)?;
+    let notes = all_notes(alloc, view, order)?;
     text.extend_from_slice(notes.as_slice())?;
-    let counts = count_text(alloc, told.pages.paint, errors_in(told.settled), skipped)?;
+    let counts = count_text(alloc, view.pages.format, errors_in(view.settled), skipped)?;
     text.extend_from_slice(counts.as_bytes())?;
     Ok(text)
 }

@@ -124,7 +124,7 @@ fn mend_text(
 ) -> Result<Vec<u8>, AllocError>
     requires same { «module».now.question.now.source.now ≡ «module».now.page.now.lines }
     requires parts { HasPartsIn «module».now.question.now.source.now mend.now }
-    ensures { IfOk result (λ text. IsMendStated «module».now.paint «module».now.page.now.file.now «module».now.page.now.lines definition.now mend.now other text.items) }
+    ensures { IfOk result (λ text. IsMendStated «module».now.format «module».now.page.now.file.now «module».now.page.now.lines definition.now mend.now other text.items) }
 {
     let source = module.question.source;
     let changes = changes_of(alloc, source, mend)?;
@@ -151,7 +151,7 @@ fn note_text(
     requires types { IfSome part.now.types (λ types. ArePartTypes «module».now.page.now.lines «module».now.question.now.name.now
         (map arc_value «module».now.question.now.imports.now) definition.now part.now.mend (string_bytes types.expected) (string_bytes types.actual)
         types.infinite) }
-    ensures { IfOk result (λ text. IsStatedOf «module».now.paint «module».now.page.now.file.now «module».now.page.now.lines
+    ensures { IfOk result (λ text. IsStatedOf «module».now.format «module».now.page.now.file.now «module».now.page.now.lines
         «module».now.question.now.name.now (map arc_value «module».now.question.now.imports.now) definition.now part.now.mend other text.items) }
 {
     let mend = &part.mend;
@@ -221,7 +221,7 @@ fn note_for(
     effort: &mut Effort,
 ) -> Result<PartNote, AllocError>
     requires { «module».now.question.now.source.now ≡ «module».now.page.now.lines }
-    ensures { IfOk result (λ note. (note.text.items ≡ []) ⊎ IsNote «module».now.paint «module».now.page.now.file.now «module».now.page.now.lines
+    ensures { IfOk result (λ note. (note.text.items ≡ []) ⊎ IsNote «module».now.format «module».now.page.now.file.now «module».now.page.now.lines
         «module».now.question.now.name.now (map arc_value «module».now.question.now.imports.now) found.now.fault.now note.text.items) }
 {
     let Some(mend) = mend_for(alloc, module, found, effort) else {
@@ -291,7 +291,7 @@ fn signature_text(
     requires same { «module».now.question.now.source.now ≡ «module».now.page.now.lines }
     requires part { IsPartOf «module».now.question.now.source.now unsigned.now.signature }
     ensures { IfOk result (λ text. (changes : List Changed) × IsRetyped «module».now.page.now.lines definition.now unsigned.now.signature (string_bytes unsigned.now.own) changes
-        × IsPartMessage «module».now.paint «module».now.page.now.file.now «module».now.page.now.lines unsigned.now.signature None
+        × IsPartMessage «module».now.format «module».now.page.now.file.now «module».now.page.now.lines unsigned.now.signature None
         (unsigned_subject definition.now end (string_bytes unsigned.now.own)) changes text.items) }
 {
     let own = unsigned.own.as_str();
@@ -322,7 +322,7 @@ fn signature_note(
     effort: &mut Effort,
 ) -> Result<SignatureNote, AllocError>
     requires { «module».now.question.now.source.now ≡ «module».now.page.now.lines }
-    ensures { IfOk result (λ note. (note.text.items ≡ []) ⊎ IsSignatureNote «module».now.paint «module».now.page.now.file.now «module».now.page.now.lines
+    ensures { IfOk result (λ note. (note.text.items ≡ []) ⊎ IsSignatureNote «module».now.format «module».now.page.now.file.now «module».now.page.now.lines
         «module».now.question.now.name.now (map arc_value «module».now.question.now.imports.now) found.now.fault.now note.leads note.text.items) }
 {
     let Some(unsigned) = unsigned_for(alloc, module, found, effort) else {
@@ -366,42 +366,42 @@ fn reading_for(
 
 /// Where two parts are searched.
 #[derive(Clone, Copy)]
-enum Wanted {
+enum FurtherNotes {
     Nothing,
     InDefinition,
     InPart(SourceRange),
 }
 
 /// Returns where two parts are searched, beside these notes.
-fn wanted_beside(note: &PartNote, signed: &SignatureNote) -> Wanted {
+fn further_beside(note: &PartNote, signed: &SignatureNote) -> FurtherNotes {
     if signed.leads {
-        return Wanted::Nothing;
+        return FurtherNotes::Nothing;
     }
     if let Some(part) = note.wide {
-        return Wanted::InPart(part);
+        return FurtherNotes::InPart(part);
     }
     if note.text.is_empty() {
-        return Wanted::InDefinition;
+        return FurtherNotes::InDefinition;
     }
-    Wanted::Nothing
+    FurtherNotes::Nothing
 }
 
-/// Returns the notes of two parts, or no text. They are wanted if there is no note of one part or that is wide, and if the note of the signature doesn't lead.
+/// Returns the notes of two parts, or no text. They are further if there is no note of one part or that is wide, and if the note of the signature doesn't lead.
 fn notes_of_two(
     alloc: Global,
     module: &FaultyModule<'_, '_>,
     found: &TypeFault<'_>,
-    wanted: Wanted,
+    further: FurtherNotes,
     effort: &mut Effort,
 ) -> Result<Vec<u8>, AllocError>
     requires { «module».now.question.now.source.now ≡ «module».now.page.now.lines }
-    ensures { IfOk result (λ text. (text.items ≡ []) ⊎ AreJointNotes «module».now.paint «module».now.page.now.file.now
+    ensures { IfOk result (λ text. (text.items ≡ []) ⊎ AreJointNotes «module».now.format «module».now.page.now.file.now
         «module».now.page.now.lines «module».now.question.now.name.now (map arc_value «module».now.question.now.imports.now) found.now.fault.now text.items) }
 {
-    match wanted {
-        Wanted::Nothing => Ok(Vec::new(alloc)),
-        Wanted::InDefinition => Ok(joint_notes(alloc, module, found, None, effort)?),
-        Wanted::InPart(part) => Ok(joint_notes(alloc, module, found, Some(part), effort)?),
+    match further {
+        FurtherNotes::Nothing => Ok(Vec::new(alloc)),
+        FurtherNotes::InDefinition => Ok(joint_notes(alloc, module, found, None, effort)?),
+        FurtherNotes::InPart(part) => Ok(joint_notes(alloc, module, found, Some(part), effort)?),
     }
 }
 
@@ -424,13 +424,13 @@ fn own_notes(
     effort: &mut Effort,
 ) -> Result<Vec<u8>, AllocError>
     requires { «module».now.question.now.source.now ≡ «module».now.page.now.lines }
-    ensures { IfOk result (λ text. AreOwnNotes «module».now.paint «module».now.page.now.file.now «module».now.page.now.lines
+    ensures { IfOk result (λ text. AreOwnNotes «module».now.format «module».now.page.now.file.now «module».now.page.now.lines
         «module».now.question.now.name.now (map arc_value «module».now.question.now.imports.now) found.now.fault.now text.items) }
 {
     let note = note_for(alloc, module, found, effort)?;
     let signed = signature_note(alloc, module, found, note.is_first, effort)?;
-    let wanted = wanted_beside(&note, &signed);
-    let both = notes_of_two(alloc, module, found, wanted, effort)?;
+    let further = further_beside(&note, &signed);
+    let both = notes_of_two(alloc, module, found, further, effort)?;
     let note = kept(alloc, note.text, both.as_slice());
     let mut text = in_order(alloc, note.as_slice(), signed.text.as_slice(), signed.leads)?;
     text.extend_from_slice(both.as_slice())?;
@@ -446,7 +446,7 @@ fn notes_of(
     effort: &mut Effort,
 ) -> Result<Vec<u8>, AllocError>
     requires { «module».now.question.now.source.now ≡ «module».now.page.now.lines }
-    ensures { IfOk result (λ text. AreNotes «module».now.paint «module».now.page.now.file.now «module».now.page.now.lines
+    ensures { IfOk result (λ text. AreNotes «module».now.format «module».now.page.now.file.now «module».now.page.now.lines
         «module».now.question.now.name.now (map arc_value «module».now.question.now.imports.now) found.now.fault.now text.items) }
 {
     let note = cause_note(alloc, module, found, effort)?;
@@ -465,7 +465,7 @@ fn notes_for(
     effort: &mut Effort,
 ) -> Result<Vec<u8>, AllocError>
     requires { «module».now.question.now.source.now ≡ «module».now.page.now.lines }
-    ensures { IfOk result (λ text. (text.items ≡ []) ⊎ AreNotes «module».now.paint «module».now.page.now.file.now «module».now.page.now.lines
+    ensures { IfOk result (λ text. (text.items ≡ []) ⊎ AreNotes «module».now.format «module».now.page.now.file.now «module».now.page.now.lines
         «module».now.question.now.name.now (map arc_value «module».now.question.now.imports.now) fault.now text.items) }
 {
     let Some(reading) = reading else {
@@ -485,10 +485,10 @@ fn limit_note(
     module: &FaultyModule<'_, '_>,
     fault: &Fault,
 ) -> Result<Vec<u8>, AllocError>
-    ensures { IfOk result (λ text. IsMessage «module».now.paint «module».now.page.now.file.now «module».now.page.now.lines fault.now.place limit text.items) }
+    ensures { IfOk result (λ text. IsMessage «module».now.format «module».now.page.now.file.now «module».now.page.now.lines fault.now.place limit text.items) }
 {
     let topic = Topic::Limit;
-    Ok(message(alloc, module.paint, module.page, fault.place, &topic)?)
+    Ok(message(alloc, module.format, module.page, fault.place, &topic)?)
 }
 
 // Why: docs/DECISIONS.md, "The limit's note".
@@ -501,13 +501,13 @@ fn fault_text(
     allowance: &mut Allowance,
 ) -> Result<Vec<u8>, AllocError>
     requires { «module».now.question.now.source.now ≡ «module».now.page.now.lines }
-    ensures told { IfOk result (λ text. IsNoted «module».now.paint «module».now.page.now.file.now «module».now.page.now.lines
+    ensures stated { IfOk result (λ text. IsNoted «module».now.format «module».now.page.now.file.now «module».now.page.now.lines
         «module».now.question.now.name.now (map arc_value «module».now.question.now.imports.now) fault.now allowance.old.is_limit_stated
         allowance.new.is_limit_stated text.items) }
     ensures reached { allowance.old.is_limit_stated ≡ false → allowance.new.is_limit_stated ≡ true → IsUsedUp allowance.new.effort }
     ensures silent { OnOk result (allowance.old.is_limit_stated ≡ false → allowance.new.is_limit_stated ≡ false → ¬ (IsUsedUp allowance.new.effort)) }
 {
-    let mut text = fault_message(alloc, module.paint, module.page, fault, Detail::Nothing)?;
+    let mut text = fault_message(alloc, module.format, module.page, fault, Detail::Nothing)?;
     if allowance.is_limit_stated {
         return Ok(text);
     }
@@ -529,7 +529,7 @@ pub(crate) fn noted_messages(
     allowance: &mut Allowance,
 ) -> Result<Vec<u8>, AllocError>
     requires { «module».now.question.now.source.now ≡ «module».now.page.now.lines }
-    ensures { IfOk result (λ text. AreInTurn (IsNoted «module».now.paint «module».now.page.now.file.now «module».now.page.now.lines
+    ensures { IfOk result (λ text. AreInTurn (IsNoted «module».now.format «module».now.page.now.file.now «module».now.page.now.lines
         «module».now.question.now.name.now (map arc_value «module».now.question.now.imports.now)) «module».now.faults.now allowance.old.is_limit_stated
         allowance.new.is_limit_stated text.items) }
 {

@@ -13,7 +13,7 @@ ghost use Rattle.hm_verdicts.specs.Sets.{IsLawfulSet};
 use crate::detailing::{faulty_messages, published};
 use crate::faulty::Allowance;
 use crate::view::{BuildView, Faulty, FaultyModule};
-use hm_messages::{Page, Paint, Topic, message};
+use hm_messages::{MessageFormat, Page, Topic, message};
 use hm_messages_hidden::hidden_of;
 use hm_messages_trials::{Effort, Question};
 use hm_names::Fault;
@@ -23,28 +23,28 @@ use std::alloc::{AllocError, Global};
 /// Returns the note of a fault that the report leaves out.
 fn note_of(
     alloc: Global,
-    paint: Paint,
+    format: MessageFormat,
     page: &Page<'_>,
     fault: &Fault,
 ) -> Result<Vec<u8>, AllocError>
-    ensures { IfOk result (λ text. IsHiddenNote paint page.now.file.now page.now.lines fault.now text.items) }
+    ensures { IfOk result (λ text. IsHiddenNote format page.now.file.now page.now.lines fault.now text.items) }
 {
     let topic = Topic::Hidden(fault.kind, fault.name.as_str());
-    Ok(message(alloc, paint, page, fault.place, &topic)?)
+    Ok(message(alloc, format, page, fault.place, &topic)?)
 }
 
 /// Returns the notes of faults that the report leaves out, in order.
 fn notes_of(
     alloc: Global,
-    paint: Paint,
+    format: MessageFormat,
     page: &Page<'_>,
     faults: &[Fault],
 ) -> Result<Vec<u8>, AllocError>
-    ensures { IfOk result (λ text. AreEach (IsHiddenNote paint page.now.file.now page.now.lines) faults.now text.items) }
+    ensures { IfOk result (λ text. AreEach (IsHiddenNote format page.now.file.now page.now.lines) faults.now text.items) }
 {
     let mut text = Vec::new(alloc);
     for fault in faults {
-        let note = note_of(alloc, paint, page, fault)?;
+        let note = note_of(alloc, format, page, fault)?;
         text.extend_from_slice(note.as_slice())?;
     }
     Ok(text)
@@ -53,15 +53,15 @@ fn notes_of(
 /// Returns the notes of all faults of a verdict.
 fn verdict_notes(
     alloc: Global,
-    paint: Paint,
+    format: MessageFormat,
     page: &Page<'_>,
     verdict: &Verdict,
 ) -> Result<Vec<u8>, AllocError>
-    ensures { IfOk result (λ text. AreHiddenNotes paint page.now.file.now page.now.lines (verdict_of verdict.now) text.items) }
+    ensures { IfOk result (λ text. AreHiddenNotes format page.now.file.now page.now.lines (verdict_of verdict.now) text.items) }
 {
     match verdict {
         Verdict::Good(_) => Ok(Vec::new(alloc)),
-        Verdict::Faulty(found) => Ok(notes_of(alloc, paint, page, found.as_slice())?),
+        Verdict::Faulty(found) => Ok(notes_of(alloc, format, page, found.as_slice())?),
     }
 }
 
@@ -85,43 +85,43 @@ fn module_notes(
     effort: &mut Effort,
 ) -> Result<Vec<u8>, AllocError>
     requires { «module».now.question.now.source.now ≡ «module».now.page.now.lines }
-    ensures { IfOk result (λ text. (text.items ≡ []) ⊎ AreHiddenStated «module».now.paint «module».now.page.now.file.now «module».now.page.now.lines
+    ensures { IfOk result (λ text. (text.items ≡ []) ⊎ AreHiddenStated «module».now.format «module».now.page.now.file.now «module».now.page.now.lines
         «module».now.question.now.name.now (map arc_value «module».now.question.now.imports.now) «module».now.faults.now text.items) }
 {
     let Some(outcome) = outcome_of(alloc, module, effort) else {
         return Ok(Vec::new(alloc));
     };
-    Ok(verdict_notes(alloc, module.paint, module.page, outcome.verdict())?)
+    Ok(verdict_notes(alloc, module.format, module.page, outcome.verdict())?)
 }
 
 /// Returns the notes of the faults that the report leaves out of a module with this number, or no text.
 fn hidden_notes(
     alloc: Global,
-    told: &BuildView<'_, '_, '_>,
+    view: &BuildView<'_, '_, '_>,
     faulty: Faulty<'_>,
     effort: &mut Effort,
 ) -> Result<Vec<u8>, AllocError>
-    requires lawful { IsLawfulSet (module_set told.now.modules.now told.now.plan.now) }
-    requires number { faulty.number < length told.now.modules.now }
-    requires source { faulty.source < length told.now.pages.now.items.items }
-    requires settled { statuses_of told.now.settled.now ≡ settlement told.now.store.now }
-    ensures { IfOk result (λ text. (text.items ≡ []) ⊎ AreHiddenStatedIn told.now.pages.now.paint
-        (slice_index_or (files_in told.now.pages.now.items.items) faulty.entry.source []) (slice_index_or (texts_in told.now.pages.now.items.items) faulty.entry.source [])
-        (module_set told.now.modules.now told.now.plan.now) (statuses_of told.now.settled.now) faulty.entry.number faulty.entry.faults.now text.items) }
+    requires lawful { IsLawfulSet (module_set view.now.modules.now view.now.plan.now) }
+    requires number { faulty.number < length view.now.modules.now }
+    requires source { faulty.source < length view.now.pages.now.items.items }
+    requires settled { statuses_of view.now.settled.now ≡ settlement view.now.store.now }
+    ensures { IfOk result (λ text. (text.items ≡ []) ⊎ AreHiddenStatedIn view.now.pages.now.format
+        (slice_index_or (files_in view.now.pages.now.items.items) faulty.entry.source []) (slice_index_or (texts_in view.now.pages.now.items.items) faulty.entry.source [])
+        (module_set view.now.modules.now view.now.plan.now) (statuses_of view.now.settled.now) faulty.entry.number faulty.entry.faults.now text.items) }
 {
-    let page = &told.pages.items[faulty.source];
-    let module = &told.modules[faulty.number];
-    let Some(imports) = published(alloc, told.store, told.plan.imports(faulty.number))? else {
+    let page = &view.pages.items[faulty.source];
+    let module = &view.modules[faulty.number];
+    let Some(imports) = published(alloc, view.store, view.plan.imports(faulty.number))? else {
         return Ok(Vec::new(alloc));
     };
     let question = Question {
         source: page.lines.source(),
         name: module.header.name.as_str(),
         imports: imports.as_slice(),
-        prelude: told.prelude,
+        prelude: view.prelude,
     };
     let module = FaultyModule {
-        paint: told.pages.paint,
+        format: view.pages.format,
         page,
         question: &question,
         faults: faulty.faults,
@@ -133,23 +133,23 @@ fn hidden_notes(
 /// There are no such notes if one said that the limit on trials is reached.
 pub(crate) fn all_messages(
     alloc: Global,
-    told: &BuildView<'_, '_, '_>,
+    view: &BuildView<'_, '_, '_>,
     faulty: Faulty<'_>,
     allowance: &mut Allowance,
 ) -> Result<Vec<u8>, AllocError>
-    requires lawful { IsLawfulSet (module_set told.now.modules.now told.now.plan.now) }
-    requires number { faulty.number < length told.now.modules.now }
-    requires source { faulty.source < length told.now.pages.now.items.items }
-    requires settled { statuses_of told.now.settled.now ≡ settlement told.now.store.now }
-    ensures { IfOk result (λ text. IsFaultyStated told.now.pages.now.paint (files_in told.now.pages.now.items.items) (texts_in told.now.pages.now.items.items)
-        faulty.entry.source (module_set told.now.modules.now told.now.plan.now) (statuses_of told.now.settled.now) faulty.entry.number faulty.entry.faults.now
+    requires lawful { IsLawfulSet (module_set view.now.modules.now view.now.plan.now) }
+    requires number { faulty.number < length view.now.modules.now }
+    requires source { faulty.source < length view.now.pages.now.items.items }
+    requires settled { statuses_of view.now.settled.now ≡ settlement view.now.store.now }
+    ensures { IfOk result (λ text. IsFaultyStated view.now.pages.now.format (files_in view.now.pages.now.items.items) (texts_in view.now.pages.now.items.items)
+        faulty.entry.source (module_set view.now.modules.now view.now.plan.now) (statuses_of view.now.settled.now) faulty.entry.number faulty.entry.faults.now
         allowance.old.is_limit_stated allowance.new.is_limit_stated text.items) }
 {
-    let mut text = faulty_messages(alloc, told, faulty, allowance)?;
+    let mut text = faulty_messages(alloc, view, faulty, allowance)?;
     if allowance.is_limit_stated {
         return Ok(text);
     }
-    let notes = hidden_notes(alloc, told, faulty, &mut allowance.effort)?;
+    let notes = hidden_notes(alloc, view, faulty, &mut allowance.effort)?;
     text.extend_from_slice(notes.as_slice())?;
     Ok(text)
 }

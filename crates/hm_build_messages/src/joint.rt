@@ -75,7 +75,7 @@ fn part_note(
     part: JointPart,
     other: JointPart,
 ) -> Result<Vec<u8>, AllocError>
-    ensures { IfOk result (λ text. (text.items ≡ []) ⊎ IsJointNote «module».now.paint «module».now.page.now.file.now «module».now.page.now.lines
+    ensures { IfOk result (λ text. (text.items ≡ []) ⊎ IsJointNote «module».now.format «module».now.page.now.file.now «module».now.page.now.lines
         definition.now part other text.items) }
 {
     let pair = pair_of(part, other);
@@ -106,7 +106,7 @@ pub(crate) fn joint_notes(
     effort: &mut Effort,
 ) -> Result<Vec<u8>, AllocError>
     requires { «module».now.question.now.source.now ≡ «module».now.page.now.lines }
-    ensures { IfOk result (λ text. (text.items ≡ []) ⊎ AreJointNotes «module».now.paint «module».now.page.now.file.now «module».now.page.now.lines
+    ensures { IfOk result (λ text. (text.items ≡ []) ⊎ AreJointNotes «module».now.format «module».now.page.now.file.now «module».now.page.now.lines
         «module».now.question.now.name.now (map arc_value «module».now.question.now.imports.now) found.now.fault.now text.items) }
 {
     let Some(joint) = joint_for(alloc, module, found, part, effort) else {

@@ -18,7 +18,7 @@ mod view;
 
 pub use crate::exhausted::module_message;
 pub use crate::explaining::explanation;
-pub use crate::options::Explain;
+pub use crate::options::MessageOptions;
 pub use crate::refused::refused_set_messages;
 pub use crate::starts::starts_of;
 pub use crate::view::BuildView;

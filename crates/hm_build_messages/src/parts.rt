@@ -37,7 +37,7 @@ pub(crate) fn part_message(
     module: &FaultyModule<'_, '_>,
     noted: &NotedPart<'_>,
 ) -> Result<Vec<u8>, AllocError>
-    ensures { IfOk result (λ text. IsPartMessage «module».now.paint «module».now.page.now.file.now «module».now.page.now.lines noted.now.part noted.now.second
+    ensures { IfOk result (λ text. IsPartMessage «module».now.format «module».now.page.now.file.now «module».now.page.now.lines noted.now.part noted.now.second
         (subject_of noted.now.topic) (map changed_of noted.now.changes.now) text.items) }
 {
     let NotedPart {
@@ -53,5 +53,5 @@ pub(crate) fn part_message(
         part: span_of(part),
         second: span_of_any(second),
     };
-    Ok(message_with(alloc, module.paint, module.page, &suggestion)?)
+    Ok(message_with(alloc, module.format, module.page, &suggestion)?)
 }

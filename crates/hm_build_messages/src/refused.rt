@@ -11,7 +11,7 @@ ghost use Rattle.hm_run_sources.specs.Origins.{AreHeadersFor};
 ghost use Rattle.hm_run_sources.specs.Refusals.{Refusal};
 ghost use Rattle.hm_run_sources.specs.Runs.{IsRefusalOf};
 
-use crate::options::Explain;
+use crate::options::MessageOptions;
 use hm_messages::{
     MessageFault, Messages, Pages, count_text, pages_of, refusal_messages, source_message,
 };
@@ -91,7 +91,7 @@ fn first_message(
 ) -> Result<Option<Vec<u8>>, AllocError>
     requires within { source < length sources.now }
     requires texts { texts_in pages.now.items.items ≡ map (λ s. s.items) sources.now }
-    ensures { IfOk result (λ m. IsFirstStated pages.now.paint (files_in pages.now.items.items) (texts_in pages.now.items.items) source
+    ensures { IfOk result (λ m. IsFirstStated pages.now.format (files_in pages.now.items.items) (texts_in pages.now.items.items) source
         (option_map (λ text. text.items) m)) }
 {
     let text = sources[source].as_slice();
@@ -116,9 +116,9 @@ fn further_messages(
 ) -> Result<Messages, AllocError>
     requires within { from ≤ length sources.now }
     requires texts { texts_in pages.now.items.items ≡ map (λ s. s.items) sources.now }
-    ensures { IfOk result (λ told. (faults : List Refusal) × AreFirstFaults (from + 1) (drop from (texts_in pages.now.items.items)) faults
-        × AreEach (λ r t. AreRefusalMessages pages.now.paint (files_in pages.now.items.items) (texts_in pages.now.items.items) r 1 t) faults told.text.items
-        × (told.errors ≡ length faults)) }
+    ensures { IfOk result (λ view. (faults : List Refusal) × AreFirstFaults (from + 1) (drop from (texts_in pages.now.items.items)) faults
+        × AreEach (λ r t. AreRefusalMessages pages.now.format (files_in pages.now.items.items) (texts_in pages.now.items.items) r 1 t) faults view.text.items
+        × (view.errors ≡ length faults)) }
 {
     let mut text = Vec::new(alloc);
     let mut errors = 0;
@@ -134,7 +134,7 @@ fn further_messages(
 
 /// Returns the number of the first source after that of a fault, counted from 0. If the plan has the fault, it is the number of sources. Returns
 /// `None` if no source has the fault's number.
-fn behind(fault: &SetFault, sources: usize) -> Option<usize>
+fn first_after(fault: &SetFault, sources: usize) -> Option<usize>
     ensures within { IfSome result (λ from. from ≤ sources) }
     ensures numbered { IfSome result (λ from. (texts : List (List ℕ)) → length texts ≡ sources → IsNumbered texts fault.now) }
     ensures further { IfSome result (λ from. (texts : List (List ℕ)) (faults : List Refusal) → length texts ≡ sources
@@ -162,8 +162,8 @@ fn own_messages(
     requires because { IsRefusalOf (texts_in pages.now.items.items) refused.now.fault }
     requires headers { AreHeadersFor (texts_in pages.now.items.items) refused.now.fault refused.now.located.items }
     requires advised { IsAdvised (texts_in pages.now.items.items) refused.now.fault advice.hint advice.text.now advice.elsewhere }
-    ensures { IfOk result (λ told. AreRefusalMessages pages.now.paint (files_in pages.now.items.items) (texts_in pages.now.items.items)
-        refused.now.fault told.errors told.text.items) }
+    ensures { IfOk result (λ view. AreRefusalMessages pages.now.format (files_in pages.now.items.items) (texts_in pages.now.items.items)
+        refused.now.fault view.errors view.text.items) }
 {
     let located = refused.located.as_slice();
     match refusal_messages(alloc, pages, located, &refused.fault, advice) {
@@ -178,16 +178,16 @@ pub fn refused_set_messages<'a>(
     alloc: Global,
     sources: &'a [Vec<u8>],
     refused: &RefusedSet,
-    explain: &'a Explain,
+    explain: &'a MessageOptions,
 ) -> Result<Vec<u8>, AllocError>
     requires because { IsRefusalOf (map (λ s. s.items) sources.now) refused.now.fault }
     requires headers { AreHeadersFor (map (λ s. s.items) sources.now) refused.now.fault refused.now.located.items }
-    ensures { IfOk result (λ m. StatesRefusal explain.now.paint (map (λ s. s.items) explain.now.names.items) (map (λ s. s.items) sources.now) refused.now.fault m.items) }
+    ensures { IfOk result (λ m. StatesRefusal explain.now.format (map (λ s. s.items) explain.now.names.items) (map (λ s. s.items) sources.now) refused.now.fault m.items) }
 {
-    let Some(from) = behind(&refused.fault, sources.len()) else {
+    let Some(from) = first_after(&refused.fault, sources.len()) else {
         unreachable!()
     };
-    let pages = pages_of(alloc, explain.paint, sources, &explain.names, &[])?;
+    let pages = pages_of(alloc, explain.format, sources, &explain.names, &[])?;
     let advice = advice_on(alloc, sources, &refused.fault, Search::Changes)?;
     let Messages { mut text, errors } = own_messages(alloc, &pages, refused, advice)?;
     let further = further_messages(alloc, &pages, sources, from)?;
@@ -195,7 +195,7 @@ pub fn refused_set_messages<'a>(
         return Err(AllocError);
     };
     text.extend_from_slice(further.text.as_slice())?;
-    let counts = count_text(alloc, explain.paint, all, 0)?;
+    let counts = count_text(alloc, explain.format, all, 0)?;
     text.extend_from_slice(counts.as_bytes())?;
     Ok(text)
 }

@@ -2,7 +2,7 @@
 
 use hm_build_reports::Settled;
 use hm_graph::Plan;
-use hm_messages::{Page, Pages, Paint};
+use hm_messages::{MessageFormat, Page, Pages};
 use hm_messages_trials::Question;
 use hm_names::Fault;
 use hm_store::Store;
@@ -34,7 +34,7 @@ pub(crate) struct Faulty<'f> {
 /// A module whose faults are reported: the page of its source, the data of its trials, and its faults.
 #[derive(Clone, Copy)]
 pub(crate) struct FaultyModule<'f, 'p> {
-    pub paint: Paint,
+    pub format: MessageFormat,
     pub page: &'f Page<'p>,
     pub question: &'f Question<'f>,
     pub faults: &'f [Fault],

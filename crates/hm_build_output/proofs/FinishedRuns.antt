@@ -15,7 +15,7 @@ use Rattle.hm_store.specs.declared.record.Act.{Act}
 use Rattle.hm_store.specs.declared.record.Act.TheVariants.{Job, Done, Publish, Fail, Stop, Look}
 use Rattle.hm_store.specs.declared.record.Call.{Call}
 use Rattle.hm_store.specs.declared.record.Record.{Record}
-use Rattle.hm_build_output.specs.BuildTexts.{HasReport, IsBehind}
+use Rattle.hm_build_output.specs.BuildTexts.{HasReport, IsFollowedBy}
 use Rattle.hm_build_reports.specs.FinishedBuilds.{AreNumbered, IsFinished}
 use Rattle.hm_build_output.specs.JournalledRuns.{Follows, IsRun}
 use Rattle.hm_build_reports.specs.Journals.{MayEnd, worker_of}
@@ -91,7 +91,7 @@ may_end sources workers b records f = record {
 
 -- ---- what is written
 
-follows : (journal : Bool) (sources : List (List ℕ)) (workers : ℕ) (b : Build) (records : List Record) (report text : List ℕ) → IsFinished sources workers b records → IsBehind b journal report text → Follows journal workers sources report text
+follows : (journal : Bool) (sources : List (List ℕ)) (workers : ℕ) (b : Build) (records : List Record) (report text : List ℕ) → IsFinished sources workers b records → IsFollowedBy b journal report text → Follows journal workers sources report text
 follows false sources workers b records report text f h = h
 follows true sources workers b records report text f h = (b, may_end sources workers b records f, h)
 
@@ -101,7 +101,7 @@ pub finished_run : (b : Build) (records : List Record) (table : List Settled) (s
     → (status ≡ Faulty → tally is_published (statuses_of table) (length table) ≢ length table) → (status ≡ Good) ⊎ (status ≡ Faulty) → IsFinished sources workers b records → IsRun workers journal sources status text
 finished_run b records table sources workers journal status text h long says good faulty either f =
     let settled = settled_build b f.legal f.settled in
-    let behind = follows journal sources workers b records h.report text f h.behind in
+    let behind = follows journal sources workers b records h.report text f h.followed in
     let told : tally is_published (statuses_of table) (length table) ≡ tally is_published (settlement b) (length b.modules) = ap₂ (λ by n. tally is_published by n) says long in
     ⊎_elim
     (λ e. subst (λ s. IsRun workers journal sources s text) (sym e)

@@ -1,9 +1,12 @@
 -- What is held of sources gives the check of the whole sources.
-use Rattle.std.proofs.Common.{ℕ, Bool, true, false, List, [], ◌∷◌, map, subst}
+use Rattle.std.proofs.Common.{◌≡◌, ℕ, Bool, true, false, List, [], ◌∷◌, map, subst, sym}
+use Rattle.std.specs.Prelude.{None}
 use Rattle.hm_store.specs.Builds.{Build}
 use Rattle.hm_syntax.specs.declared.ast.Module.{Module}
 use Rattle.hm_build_output.specs.Checks.{IsChecked, IsCheckRun}
 use Rattle.hm_build_output.specs.JournalledRuns.{Follows, IsRun, IsWritten}
+use Rattle.hm_build_output.specs.Outputs.{IsOutput, IsWrittenAs}
+use Rattle.hm_build_output.specs.declared.options.RunOptions.{RunOptions}
 use Rattle.hm_build_reports.specs.Journals.{MayEnd}
 use Rattle.hm_run_io.specs.Sources.{held_of}
 use Rattle.hm_run_sources.specs.SourceModules.{AreModulesOf, HasModules}
@@ -41,3 +44,13 @@ written_held journal workers ss Refused report text h = h
 
 pub build_held : (workers : ℕ) (journal : Bool) (ss : List (List ℕ)) (status : Status) (text : List ℕ) → IsRun workers journal (map held_of ss) status text → IsRun workers journal ss status text
 build_held workers journal ss status text h = record { report = h.report; checked = check_held ss status h.report h.checked; written = written_held journal workers ss status h.report text h.written }
+
+-- the output of a run on what is held of the sources is one of a run on the sources
+pub output_held : (options : RunOptions) (ss : List (List ℕ)) (status : Status) (written messages : List ℕ) → IsOutput options (map held_of ss) (map held_of ss) status written messages → IsOutput options ss (map held_of ss) status written messages
+output_held options ss status written messages h = record { text = h.text; run = build_held options.options.workers options.options.journal ss status h.text h.run; in_form = h.in_form; explained = h.explained }
+
+-- what is written without names is the text of the run
+pub written_run : (options : RunOptions) (sources held : List (List ℕ)) (status : Status) (written messages : List ℕ) → options.listed ≡ None → IsOutput options sources held status written messages → IsRun options.options.workers options.options.journal sources status written
+written_run options sources held status written messages none h =
+    let same : written ≡ h.text = subst (λ l. IsWrittenAs l held status h.text written) none h.in_form in
+    subst (λ t. IsRun options.options.workers options.options.journal sources status t) (sym same) h.run

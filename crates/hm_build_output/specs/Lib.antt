@@ -1,3 +1,4 @@
 pub mod BuildTexts
 pub mod Checks
 pub mod JournalledRuns
+pub mod Outputs

@@ -1,6 +1,6 @@
 //! The message of a module that can't be checked because memory ran out.
 ghost use Rattle.std.specs.Prelude.{IfSome, map};
-ghost use Rattle.hm_build_messages.specs.Explained.{StatesExhaustion};
+ghost use Rattle.hm_build_output.specs.Outputs.{IsExhaustionFor};
 ghost use Rattle.hm_run_sources.specs.Origins.{IsModuleOf};
 
 use crate::options::RunOptions;
@@ -8,7 +8,7 @@ use hm_build_messages::module_message;
 use hm_run_sources::SourceModule;
 use std::alloc::Global;
 
-/// Returns the message that there is no memory to check this module. Returns `None` if faults aren't explained, or if there is no memory for
+/// Returns the message that there is no memory to check this module. Returns `None` if messages aren't requested, or if there is no memory for
 /// the message either.
 pub fn exhausted_message<'a>(
     alloc: Global,
@@ -17,11 +17,10 @@ pub fn exhausted_message<'a>(
     here: &'a SourceModule,
 ) -> Option<Vec<u8>>
     requires { IsModuleOf (map (λ s. s.items) sources.now) here.now }
-    ensures { IfSome result (λ m. IfSome run_options.now.explain (λ e.
-        StatesExhaustion e.paint (map (λ s. s.items) e.names.items) (map (λ s. s.items) sources.now) m.items)) }
+    ensures { IfSome result (λ m. IsExhaustionFor run_options.now.messages (map (λ s. s.items) sources.now) m.items) }
 {
-    match &run_options.explain {
-        Some(explain) => module_message(alloc, sources, explain, here).ok(),
+    match &run_options.messages {
+        Some(options) => module_message(alloc, sources, options, here).ok(),
         None => None,
     }
 }

@@ -1,6 +1,6 @@
 //! The options of a run.
 
-use hm_build_messages::Explain;
+use hm_build_messages::MessageOptions;
 use hm_run_sources::Trees;
 
 /// The options of a run without messages.
@@ -14,27 +14,12 @@ pub struct Options {
     pub trees: Trees,
 }
 
-/// The options of a run with messages.
-#[derive(Drop)]
-pub struct Explaining {
-    pub options: Options,
-    pub explain: Explain,
-}
-
-/// The options of a run whose report is JSON objects.
-#[derive(Drop)]
-pub struct Listing {
-    pub options: Options,
-    /// The names of the sources' files, in order. A source without a name is standard input.
-    pub names: Vec<String>,
-    /// How faults are explained, if they are.
-    pub explain: Option<Explain>,
-}
-
-/// The options of a run, those of its messages if its faults are explained, and the names of the sources' files if its report is JSON objects.
+/// The options of a run, and in which forms it writes the report and messages.
 #[derive(Drop)]
 pub struct RunOptions {
     pub options: Options,
-    pub explain: Option<Explain>,
+    /// How faults are explained, if they are.
+    pub messages: Option<MessageOptions>,
+    /// The names of the sources' files, in order, if the report is JSON objects. A source without a name is standard input.
     pub listed: Option<Vec<String>>,
 }

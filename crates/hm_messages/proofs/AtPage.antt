@@ -5,7 +5,7 @@ use Rattle.hm_lex.specs.declared.token.Place.{Place}
 use Rattle.hm_messages.specs.Messages.{IsHeadingAt}
 use Rattle.hm_messages.specs.Pages.{files_in, texts_in}
 use Rattle.hm_messages.specs.Subjects.{Subject}
-use Rattle.hm_messages.specs.declared.heading.Paint.{Paint}
+use Rattle.hm_messages.specs.declared.heading.MessageFormat.{MessageFormat}
 use Rattle.hm_messages.specs.declared.pages.Page.{Page}
 
 pub as_many : (pages : List Page) → length (texts_in pages) ≡ length pages
@@ -21,8 +21,8 @@ module _ (pages : List Page) (k : ℕ) (page : Page) (low : k < length pages) (i
   pub text_is : page.lines ≡ get_or (texts_in pages) k []
   text_is = ap (λ (p : Page). p.lines) is ∙ sym (get_or-map (λ p. p.lines) pages k page [] low)
 
-  pub heading_in : (paint : Paint) (place : Place) (subject : Subject) (text : List ℕ) → IsHeadingAt paint page.file.now page.lines place subject text
-      → IsHeadingAt paint (get_or (files_in pages) k []) (get_or (texts_in pages) k []) place subject text
-  heading_in paint place subject text h =
-      subst (λ (s : List ℕ). IsHeadingAt paint (get_or (files_in pages) k []) s place subject text) text_is
-      (subst (λ (f : List ℕ). IsHeadingAt paint f page.lines place subject text) file_is h)
+  pub heading_in : (format : MessageFormat) (place : Place) (subject : Subject) (text : List ℕ) → IsHeadingAt format page.file.now page.lines place subject text
+      → IsHeadingAt format (get_or (files_in pages) k []) (get_or (texts_in pages) k []) place subject text
+  heading_in format place subject text h =
+      subst (λ (s : List ℕ). IsHeadingAt format (get_or (files_in pages) k []) s place subject text) text_is
+      (subst (λ (f : List ℕ). IsHeadingAt format f page.lines place subject text) file_is h)

@@ -251,7 +251,7 @@ module _ (sources : List (List ℕ)) (starts found : List ModuleStart) (k from :
   next_within within =
       still_within from (length starts) (length (drop from starts)) (length (found ++ here.1)) (length found) (length here.1) within (ap length first_left) (length-append found here.1) (length-drop from starts)
 
--- no module is left behind the last source
+-- no module is left after the last source
 pub none_left : (sources : List (List ℕ)) (starts : List ModuleStart) (k from : ℕ) → length sources ≤ k → AreGrouped k (drop k sources) (drop from starts) → take from starts ≡ starts
 none_left sources starts k from past g =
     let none : drop from starts ≡ [] = subst (λ (l : List (List ℕ)). AreGrouped k l (drop from starts)) (drop_all k sources past) g in

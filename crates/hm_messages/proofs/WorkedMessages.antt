@@ -9,17 +9,17 @@ use Rattle.hm_messages_excerpts.specs.Escapes.{shown}
 use Rattle.hm_messages_excerpts.specs.Excerpts.{IsPlaceIn}
 use Rattle.hm_messages_excerpts.specs.declared.columns.Columns.{Columns}
 use Rattle.hm_messages.specs.Headings.{heading}
-use Rattle.hm_messages.specs.Messages.{HasNoMessage, HasNoReaderPlace, IsMessage, StatesAt, message_left_out, message_stated, reader_place}
+use Rattle.hm_messages.specs.Messages.{Extras, HasNoMessage, HasNoReaderPlace, IsMessage, IsMessageWith, StatesAt, StatesWith, message_left_out, message_stated, reader_place, with_left_out, with_stated}
 use Rattle.hm_messages.specs.Notices.{notice_of}
 use Rattle.hm_messages.specs.Subjects.{Subject}
 use Rattle.hm_messages.specs.Worked.{ForeignRow, MessageRow, PositionRow}
-use Rattle.hm_messages.specs.declared.heading.Paint.{Paint}
-use Rattle.hm_messages.specs.declared.heading.Paint.TheVariants.{Plain, Coloured, Json}
+use Rattle.hm_messages.specs.declared.heading.MessageFormat.{MessageFormat}
+use Rattle.hm_messages.specs.declared.heading.MessageFormat.TheVariants.{Plain, Coloured, Json}
 
-abbrev first_place : Place
+abbrev pub first_place : Place
 first_place = record { line = 1; column = 1 }
 
-abbrev second_place : Place
+abbrev pub second_place : Place
 second_place = record { line = 1; column = 2 }
 
 no_byte : (xs : List ℕ) → length xs ≡ 0 → xs ≡ []
@@ -66,17 +66,17 @@ is_for_readers h =
     let wide = h is_first in
     omega (arith, one_column wide.0 wide.1, wide.2)
 
-is_told : (paint : Paint) → ¬ (HasNoMessage paint [] first_place)
+is_told : (format : MessageFormat) → ¬ (HasNoMessage format [] first_place)
 is_told Plain h = is_for_readers h
 is_told Coloured h = is_for_readers h
 is_told Json h = h is_first
 
-isnt_stated : (paint : Paint) → HasNoMessage paint [] second_place
+pub isnt_stated : (format : MessageFormat) → HasNoMessage format [] second_place
 isnt_stated Plain = λ h. absurd (isnt_second h)
 isnt_stated Coloured = λ h. absurd (isnt_second h)
 isnt_stated Json = isnt_second
 
-isnt_empty : (paint : Paint) (file : List ℕ) (s : Subject) → ¬ (StatesAt paint file [] first_place s [])
+isnt_empty : (format : MessageFormat) (file : List ℕ) (s : Subject) → ¬ (StatesAt format file [] first_place s [])
 unfolding first_byte
 isnt_empty Plain file s h =
     let colon : 0 ≡ 58 = ap first_byte (no_line (shown file) (heading Plain (reader_place first_place h.columns) s) (notice_of s).sentence (excerpt_text h.excerpt) h.says) in
@@ -86,15 +86,31 @@ isnt_empty Coloured file s h =
     omega (arith, colon)
 isnt_empty Json file s h = let says = h.object.says in search (rules, some_bytes)
 
-isnt_left_out : (paint : Paint) (file : List ℕ) (s : Subject) → ¬ (IsMessage paint file [] first_place s [])
-isnt_left_out paint file s m = elim m [
-  | message_stated h ↦ isnt_empty paint file s h
-  | message_left_out e n ↦ is_told paint n
+isnt_left_out : (format : MessageFormat) (file : List ℕ) (s : Subject) → ¬ (IsMessage format file [] first_place s [])
+isnt_left_out format file s m = elim m [
+  | message_stated h ↦ isnt_empty format file s h
+  | message_left_out e n ↦ is_told format n
+]
+
+isnt_empty_with : (format : MessageFormat) (file : List ℕ) (s : Subject) (x : Extras) → ¬ (StatesWith format file [] first_place s x [])
+unfolding first_byte
+isnt_empty_with Plain file s x h =
+    let colon : 0 ≡ 58 = ap first_byte (no_line (shown file) (heading Plain (reader_place first_place h.columns) s) (notice_of s).sentence (excerpt_text h.excerpt) h.says) in
+    omega (arith, colon)
+isnt_empty_with Coloured file s x h =
+    let colon : 0 ≡ 58 = ap first_byte (no_line (shown file) (heading Coloured (reader_place first_place h.columns) s) (notice_of s).sentence (excerpt_text h.excerpt) h.says) in
+    omega (arith, colon)
+isnt_empty_with Json file s x h = let says = h.says in search (rules, some_bytes)
+
+pub isnt_left_out_with : (format : MessageFormat) (file : List ℕ) (s : Subject) (x : Extras) → ¬ (IsMessageWith format file [] first_place s x [])
+isnt_left_out_with format file s x m = elim m [
+  | with_stated h ↦ isnt_empty_with format file s x h
+  | with_left_out e n ↦ is_told format n
 ]
 
 pub worked_messages : MessageRow
 worked_messages = record {
-  outside = λ paint file s. message_left_out refl (isnt_stated paint);
+  outside = λ format file s. message_left_out refl (isnt_stated format);
   inside = isnt_left_out;
 }
 

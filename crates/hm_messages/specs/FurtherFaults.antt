@@ -1,4 +1,4 @@
--- The first fault of each source behind the one for which a set is refused.
+-- The first fault of each source after the one for which a set is refused.
 use Rattle.std.specs.Prelude.{◌≡◌, ℕ, ◌+◌, List, [], ◌∷◌, ◌++◌, Option, None, Some, drop, option_to_list}
 use Rattle.hm_run_sources.specs.Refusals.{Refusal, lex, parse, plan, IsLasting}
 use Rattle.hm_run_sources.specs.Runs.{IsSourceFault}
@@ -16,7 +16,7 @@ AreFirstFaults n [] faults = faults ≡ []
 AreFirstFaults n (s ∷ ss) faults =
     (first : Option Refusal) × (later : List Refusal) × IsFirstFault n s first × AreFirstFaults (n + 1) ss later × (faults ≡ option_to_list first ++ later)
 
--- the first faults of the sources behind that of the refusal. If the plan is refused, no source has a fault
+-- the first faults of the sources after that of the refusal. If the plan is refused, no source has a fault
 abbrev pub AreFurtherFaults : List (List ℕ) → Refusal → List Refusal → Type 0
 AreFurtherFaults sources (lex n fault) faults = AreFirstFaults (n + 1) (drop n sources) faults
 AreFurtherFaults sources (parse n fault) faults = AreFirstFaults (n + 1) (drop n sources) faults

@@ -1,4 +1,4 @@
--- The first line of a message behind its file's name, and the line of counts.
+-- The first line of a message after its file's name, and the line of counts.
 use Rattle.std.specs.Prelude.{ℕ, ◌==◌, ◌&&◌, List, [], ◌∷◌, ◌++◌, Option, Some, None, codes, if◌then◌else◌}
 use Rattle.std.specs.Fmt.{decimal}
 use Rattle.hm_messages_excerpts.specs.Escapes.{shown}
@@ -17,11 +17,11 @@ use Rattle.hm_messages.specs.declared.topic.Way.{Way}
 use Rattle.hm_messages.specs.declared.topic.Pair.{Pair}
 use Rattle.hm_messages.specs.declared.topic.Pair.TheVariants as pair
 use Rattle.hm_messages.specs.declared.topic.Way.TheVariants.{Expression, Pattern, Exchange, Removal, Sides, Patterns, Brackets, ListBrackets, Argument, Semicolon, Comma, Both}
-use Rattle.hm_messages.specs.declared.heading.Paint.{Paint}
-use Rattle.hm_messages.specs.declared.heading.Paint.TheVariants.{Plain, Coloured, Json}
+use Rattle.hm_messages.specs.declared.heading.MessageFormat.{MessageFormat}
+use Rattle.hm_messages.specs.declared.heading.MessageFormat.TheVariants.{Plain, Coloured, Json}
 
 -- a coloured word stands between two escapes, which begin with byte 27
-abbrev pub begin : Paint → Level → List ℕ
+abbrev pub begin : MessageFormat → Level → List ℕ
 begin Plain Error = codes "error"
 begin Plain Note = codes "note"
 begin Json Error = codes "error"
@@ -29,7 +29,7 @@ begin Json Note = codes "note"
 begin Coloured Error = 27 ∷ codes "[1;31merror"
 begin Coloured Note = 27 ∷ codes "[1;36mnote"
 
-abbrev pub end : Paint → List ℕ
+abbrev pub end : MessageFormat → List ℕ
 end Plain = []
 end Json = []
 end Coloured = 27 ∷ codes "[0m"
@@ -166,35 +166,35 @@ title limit = codes "type errors after this one have no notes: the limit on tria
 title (step x y) = codes "'" ++ x ++ codes "' imports '" ++ y ++ codes "'"
 title (hidden k x) = hidden_title k x
 
--- behind an error stands its word, between brackets
+-- after an error stands its word, between brackets
 abbrev pub tag : Level → List ℕ → List ℕ
 tag Error kind = codes " [" ++ kind ++ codes "]"
 tag Note kind = []
 
 -- a long text is cut
-abbrev pub heading : Paint → Place → Subject → List ℕ
-heading paint p subject =
-    codes ":" ++ decimal p.line ++ codes ":" ++ decimal p.column ++ codes ": " ++ begin paint (notice_of subject).level ++ end paint ++ codes ": "
+abbrev pub heading : MessageFormat → Place → Subject → List ℕ
+heading format p subject =
+    codes ":" ++ decimal p.line ++ codes ":" ++ decimal p.column ++ codes ": " ++ begin format (notice_of subject).level ++ end format ++ codes ": "
     ++ shown (shortened (title subject)) ++ tag (notice_of subject).level (notice_of subject).kind ++ codes "\n"
 
 abbrev pub further_counts : ℕ → List ℕ
 further_counts n = codes ": further skipped modules: " ++ decimal n ++ codes "; they have no notes\n"
 
 -- the line about the skipped modules that have no notes. There is none if all have notes
-abbrev pub some_further : Paint → ℕ → List ℕ
-some_further paint n = begin paint Note ++ end paint ++ further_counts n
+abbrev pub some_further : MessageFormat → ℕ → List ℕ
+some_further format n = begin format Note ++ end format ++ further_counts n
 
-abbrev pub further_text : Paint → ℕ → List ℕ
-further_text paint n = if n == 0 then [] else some_further paint n
+abbrev pub further_text : MessageFormat → ℕ → List ℕ
+further_text format n = if n == 0 then [] else some_further format n
 
 abbrev pub some_counts : ℕ → ℕ → List ℕ
 some_counts errors skips = codes "errors: " ++ decimal errors ++ codes ", skipped modules: " ++ decimal skips ++ codes "\n"
 
--- readers are told no counts where nothing is wrong
+-- a reader gets no counts if nothing is wrong
 abbrev pub prose_counts : ℕ → ℕ → List ℕ
 prose_counts errors skips = if (errors == 0) && (skips == 0) then [] else some_counts errors skips
 
-abbrev pub count_text : Paint → ℕ → ℕ → List ℕ
+abbrev pub count_text : MessageFormat → ℕ → ℕ → List ℕ
 count_text Plain errors skips = prose_counts errors skips
 count_text Coloured errors skips = prose_counts errors skips
 count_text Json errors skips = counts_text errors skips

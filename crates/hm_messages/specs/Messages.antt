@@ -21,8 +21,8 @@ use Rattle.hm_messages.specs.Headings.{heading, title}
 use Rattle.hm_messages.specs.ModuleStarts.{IsModuleAt, IsModuleAround, Start}
 use Rattle.hm_messages.specs.Notices.{notice_of}
 use Rattle.hm_messages.specs.Subjects.{Subject, fault}
-use Rattle.hm_messages.specs.declared.heading.Paint.{Paint}
-use Rattle.hm_messages.specs.declared.heading.Paint.TheVariants.{Plain, Coloured, Json}
+use Rattle.hm_messages.specs.declared.heading.MessageFormat.{MessageFormat}
+use Rattle.hm_messages.specs.declared.heading.MessageFormat.TheVariants.{Plain, Coloured, Json}
 
 -- the place as readers count it, its column in characters
 abbrev pub reader_place : Place → Columns → Place
@@ -33,24 +33,24 @@ abbrev pub HasNoReaderPlace : List ℕ → Place → Type 0
 HasNoReaderPlace source place = IsPlaceIn source place → (columns : Columns) × AreColumnsAt source place columns × (4294967296 ≤ columns.characters)
 
 -- no message can name the place. One for a program can name any place in the source
-abbrev pub HasNoMessage : Paint → List ℕ → Place → Type 0
+abbrev pub HasNoMessage : MessageFormat → List ℕ → Place → Type 0
 HasNoMessage Plain source place = HasNoReaderPlace source place
 HasNoMessage Coloured source place = HasNoReaderPlace source place
 HasNoMessage Json source place = ¬ IsPlaceIn source place
 
 -- the text tells the subject at a place, which lies in the source: the file, the place, what is wrong, a sentence, and the line with a mark at the place
-pub record IsProse (paint : Paint) (file source : List ℕ) (place : Place) (subject : Subject) (text : List ℕ) : Type 0 where
+pub record IsProse (format : MessageFormat) (file source : List ℕ) (place : Place) (subject : Subject) (text : List ℕ) : Type 0 where
   pub columns : Columns
   pub columns_at : AreColumnsAt source place columns
   pub excerpt : Excerpt
   pub excerpt_at : IsExcerptAt source place excerpt
-  pub says : text ≡ shown file ++ heading paint (reader_place place columns) subject ++ (notice_of subject).sentence ++ excerpt_text excerpt
+  pub says : text ≡ shown file ++ heading format (reader_place place columns) subject ++ (notice_of subject).sentence ++ excerpt_text excerpt
 
 -- the same, of the first line alone
-pub record IsProseHeading (paint : Paint) (file source : List ℕ) (place : Place) (subject : Subject) (text : List ℕ) : Type 0 where
+pub record IsProseHeading (format : MessageFormat) (file source : List ℕ) (place : Place) (subject : Subject) (text : List ℕ) : Type 0 where
   pub columns : Columns
   pub columns_at : AreColumnsAt source place columns
-  pub says : text ≡ shown file ++ heading paint (reader_place place columns) subject
+  pub says : text ≡ shown file ++ heading format (reader_place place columns) subject
 
 -- the hint is the sentence without its last character, the line end; no sentence gives none
 abbrev pub IsHint : List ℕ → Option (List ℕ) → Type 0
@@ -103,37 +103,37 @@ pub record NamesModule (starts : List Start) (place : Place) (text : List ℕ) :
   pub says : text ≡ message_text message
 
 -- the text tells the subject at a place, to a reader or to a program
-abbrev pub StatesAt : Paint → List ℕ → List ℕ → Place → Subject → List ℕ → Type 0
+abbrev pub StatesAt : MessageFormat → List ℕ → List ℕ → Place → Subject → List ℕ → Type 0
 StatesAt Plain file source place subject text = IsProse Plain file source place subject text
 StatesAt Coloured file source place subject text = IsProse Coloured file source place subject text
 StatesAt Json file source place subject text = IsObject file source place subject text
 
 -- the same, with extras that a program gets
-abbrev pub StatesWith : Paint → List ℕ → List ℕ → Place → Subject → Extras → List ℕ → Type 0
+abbrev pub StatesWith : MessageFormat → List ℕ → List ℕ → Place → Subject → Extras → List ℕ → Type 0
 StatesWith Plain file source place subject extras text = IsProse Plain file source place subject text
 StatesWith Coloured file source place subject extras text = IsProse Coloured file source place subject text
 StatesWith Json file source place subject extras text = IsObjectWith file source place subject extras text
 
 -- the text tells the subject at a place, to a reader by the first line alone
-abbrev pub StatesInLine : Paint → List ℕ → List ℕ → Place → Subject → List ℕ → Type 0
+abbrev pub StatesInLine : MessageFormat → List ℕ → List ℕ → Place → Subject → List ℕ → Type 0
 StatesInLine Plain file source place subject text = IsProseHeading Plain file source place subject text
 StatesInLine Coloured file source place subject text = IsProseHeading Coloured file source place subject text
 StatesInLine Json file source place subject text = IsObject file source place subject text
 
 -- a message at a place. It is left out only if no message can name the place
-pub data IsMessage (paint : Paint) (file source : List ℕ) (place : Place) (subject : Subject) (text : List ℕ) : Type 0 where
-  message_stated : StatesAt paint file source place subject text → IsMessage paint file source place subject text
-  message_left_out : text ≡ [] → HasNoMessage paint source place → IsMessage paint file source place subject text
+pub data IsMessage (format : MessageFormat) (file source : List ℕ) (place : Place) (subject : Subject) (text : List ℕ) : Type 0 where
+  message_stated : StatesAt format file source place subject text → IsMessage format file source place subject text
+  message_left_out : text ≡ [] → HasNoMessage format source place → IsMessage format file source place subject text
 
 -- the same, of a message with extras
-pub data IsMessageWith (paint : Paint) (file source : List ℕ) (place : Place) (subject : Subject) (extras : Extras) (text : List ℕ) : Type 0 where
-  with_stated : StatesWith paint file source place subject extras text → IsMessageWith paint file source place subject extras text
-  with_left_out : text ≡ [] → HasNoMessage paint source place → IsMessageWith paint file source place subject extras text
+pub data IsMessageWith (format : MessageFormat) (file source : List ℕ) (place : Place) (subject : Subject) (extras : Extras) (text : List ℕ) : Type 0 where
+  with_stated : StatesWith format file source place subject extras text → IsMessageWith format file source place subject extras text
+  with_left_out : text ≡ [] → HasNoMessage format source place → IsMessageWith format file source place subject extras text
 
 -- the first line of a message, or its object. It is left out by the same rule
-pub data IsHeadingAt (paint : Paint) (file source : List ℕ) (place : Place) (subject : Subject) (text : List ℕ) : Type 0 where
-  line_stated : StatesInLine paint file source place subject text → IsHeadingAt paint file source place subject text
-  line_left_out : text ≡ [] → HasNoMessage paint source place → IsHeadingAt paint file source place subject text
+pub data IsHeadingAt (format : MessageFormat) (file source : List ℕ) (place : Place) (subject : Subject) (text : List ℕ) : Type 0 where
+  line_stated : StatesInLine format file source place subject text → IsHeadingAt format file source place subject text
+  line_left_out : text ≡ [] → HasNoMessage format source place → IsHeadingAt format file source place subject text
 
 -- the position of the place that the detail names, if it names one that is in the source
 abbrev pub IsOther : List ℕ → Known → Option Position → Type 0
@@ -145,17 +145,17 @@ IsOther source (first p) None = ¬ IsPlaceIn source p
 IsOther source (first p) (Some position) = IsPositionAt source p position
 IsOther source (arguments here takes) other = other ≡ None
 IsOther source (lengths here others) other = other ≡ None
-IsOther source (not_from x t) other = other ≡ None
+IsOther source (not_from x t y) other = other ≡ None
 IsOther source (near_binding x) other = other ≡ None
 IsOther source (elsewhere s) other = other ≡ None
 IsOther source by_pattern other = other ≡ None
 IsOther source (near_local x) other = other ≡ None
 
 -- the message of a fault of which this is known, at the fault's place
-pub record IsFaultMessage (paint : Paint) (file source : List ℕ) (f : Fault) (known : Known) (text : List ℕ) : Type 0 where
+pub record IsFaultMessage (format : MessageFormat) (file source : List ℕ) (f : Fault) (known : Known) (text : List ℕ) : Type 0 where
   pub other : Option Position
   pub other_is : IsOther source known other
-  pub told : IsMessage paint file source f.place (fault f.kind f.name known other) text
+  pub stated : IsMessage format file source f.place (fault f.kind f.name known other) text
 
 -- the text has a part for each element, in order, and no more
 abbrev pub AreEach : {X : Type 0} → (X → List ℕ → Type 0) → List X → List ℕ → Type 0

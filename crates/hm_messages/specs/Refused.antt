@@ -24,7 +24,7 @@ use Rattle.hm_messages.specs.Messages.{AreEach, IsHeadingAt, IsMessage}
 use Rattle.hm_messages.specs.Missing.{HasNearModule, SetImport, missing_imports}
 use Rattle.hm_messages.specs.Subjects.{Subject, too_long, lexeme, open_comment, too_deep, syntax_fault, too_many, twice, twin, missing, cycle, step}
 use Rattle.hm_messages.specs.Twins.{IsTwinOf}
-use Rattle.hm_messages.specs.declared.heading.Paint.{Paint}
+use Rattle.hm_messages.specs.declared.heading.MessageFormat.{MessageFormat}
 
 -- the place of the first byte of a source
 abbrev pub first_place : Place
@@ -112,9 +112,9 @@ IsRefusedAt sources (plan (planning.Cycle k) m i) number place = IsNamedAt sourc
 IsRefusedAt sources (plan planning.Memory m i) number place = ⊤
 
 -- a message at a place of the source with this number, counted from 0
-pub record IsMessageAt (paint : Paint) (files sources : List (List ℕ)) (number : ℕ) (place : Place) (subject : Subject) (text : List ℕ) : Type 0 where
+pub record IsMessageAt (format : MessageFormat) (files sources : List (List ℕ)) (number : ℕ) (place : Place) (subject : Subject) (text : List ℕ) : Type 0 where
   pub inside : number < length sources
-  pub told : IsMessage paint (slice_index_or files number []) (slice_index_or sources number []) place subject text
+  pub stated : IsMessage format (slice_index_or files number []) (slice_index_or sources number []) place subject text
 
 -- an import of a cycle: its source, its place, its module, and the name that it imports
 pub record Way : Type 0 where
@@ -123,76 +123,76 @@ pub record Way : Type 0 where
   pub name : List ℕ
   pub import : List ℕ
 
-abbrev pub IsWayStated : Paint → List (List ℕ) → List (List ℕ) → Way → List ℕ → Type 0
-IsWayStated paint files sources way text = (way.number < length sources) × IsHeadingAt paint (slice_index_or files way.number []) (slice_index_or sources way.number []) way.place (step way.name way.import) text
+abbrev pub IsWayStated : MessageFormat → List (List ℕ) → List (List ℕ) → Way → List ℕ → Type 0
+IsWayStated format files sources way text = (way.number < length sources) × IsHeadingAt format (slice_index_or files way.number []) (slice_index_or sources way.number []) way.place (step way.name way.import) text
 
 -- one message at a place of a source, and after it a line for each of some imports
-pub record AreMessagesOf (paint : Paint) (files sources : List (List ℕ)) (number : ℕ) (place : Place) (subject : Subject) (text : List ℕ) : Type 0 where
+pub record AreMessagesOf (format : MessageFormat) (files sources : List (List ℕ)) (number : ℕ) (place : Place) (subject : Subject) (text : List ℕ) : Type 0 where
   pub first : List ℕ
-  pub told : IsMessageAt paint files sources number place subject first
+  pub stated : IsMessageAt format files sources number place subject first
   pub ways : List Way
   pub lines : List ℕ
-  pub steps : AreEach (IsWayStated paint files sources) ways lines
+  pub steps : AreEach (IsWayStated format files sources) ways lines
   pub whole : text ≡ first ++ lines
 
 -- a message at an import that names no module, perhaps with a near name
-abbrev pub IsMissingStated : Paint → List (List ℕ) → List (List ℕ) → SetImport → List ℕ → Type 0
-IsMissingStated paint files sources i text = (near : Option (List ℕ)) × HasNearModule sources i.name near × IsMessageAt paint files sources i.number i.place (missing i.name near) text
+abbrev pub IsMissingStated : MessageFormat → List (List ℕ) → List (List ℕ) → SetImport → List ℕ → Type 0
+IsMissingStated format files sources i text = (near : Option (List ℕ)) × HasNearModule sources i.name near × IsMessageAt format files sources i.number i.place (missing i.name near) text
 
 -- the first import that names no module is this one, and the text has a message for each further one, in order. The number of errors is that of all of
 -- them
-pub record AreFurtherStated (paint : Paint) (files sources : List (List ℕ)) (first : SetImport) (errors : ℕ) (text : List ℕ) : Type 0 where
+pub record AreFurtherStated (format : MessageFormat) (files sources : List (List ℕ)) (first : SetImport) (errors : ℕ) (text : List ℕ) : Type 0 where
   pub located : List Located
   pub of_sources : AreLocated sources located
   pub more : List SetImport
   pub all : missing_imports located ≡ first ∷ more
-  pub told : AreEach (IsMissingStated paint files sources) more text
+  pub stated : AreEach (IsMissingStated format files sources) more text
   pub count : errors ≡ length more + 1
 
 -- a note at the name of this module, and nothing if there is none
-abbrev pub IsTwinStated : Paint → List (List ℕ) → List (List ℕ) → List ℕ → Option Located → List ℕ → Type 0
-IsTwinStated paint files sources name (Some l) text = IsMessageAt paint files sources l.source (record { line = l.header.name.line; column = l.header.name.column }) (twin name) text
-IsTwinStated paint files sources name None text = text ≡ []
+abbrev pub IsTwinStated : MessageFormat → List (List ℕ) → List (List ℕ) → List ℕ → Option Located → List ℕ → Type 0
+IsTwinStated format files sources name (Some l) text = IsMessageAt format files sources l.source (record { line = l.header.name.line; column = l.header.name.column }) (twin name) text
+IsTwinStated format files sources name None text = text ≡ []
 
 -- the text is a note at a module before the one with this number, which has its name. If none has it, there is no note
-pub record HasTwinStated (paint : Paint) (files sources : List (List ℕ)) («module» : ℕ) (name text : List ℕ) : Type 0 where
+pub record HasTwinStated (format : MessageFormat) (files sources : List (List ℕ)) («module» : ℕ) (name text : List ℕ) : Type 0 where
   pub located : List Located
   pub of_sources : AreLocated sources located
   pub found : Option Located
   pub twin_of : IsTwinOf name (take «module» located) found
-  pub told : IsTwinStated paint files sources name found text
+  pub stated : IsTwinStated format files sources name found text
 
 -- the text after the first message, which is at this place, and the number of errors. It has a note at the first module of a name that is taken, a line
 -- for each import of a cycle, or a message for each further import that names no module. Otherwise it is empty
-abbrev pub IsBehind : Paint → List (List ℕ) → List (List ℕ) → Refusal → ℕ → Place → ℕ → List ℕ → Type 0
-IsBehind paint files sources (lex n fault) number place errors text = (text ≡ []) × (errors ≡ 1)
-IsBehind paint files sources (parse n fault) number place errors text = (text ≡ []) × (errors ≡ 1)
-IsBehind paint files sources (plan planning.TooMany m i) number place errors text = (text ≡ []) × (errors ≡ 1)
-IsBehind paint files sources (plan (planning.Duplicate k) m i) number place errors text = HasTwinStated paint files sources k m text × (errors ≡ 1)
-IsBehind paint files sources (plan (planning.Missing k j) m i) number place errors text = AreFurtherStated paint files sources (record { number = number; place = place; name = i }) errors text
-IsBehind paint files sources (plan (planning.Cycle k) m i) number place errors text = (ways : List Way) × AreEach (IsWayStated paint files sources) ways text × (errors ≡ 1)
-IsBehind paint files sources (plan planning.Memory m i) number place errors text = (text ≡ []) × (errors ≡ 1)
+abbrev pub IsRestStated : MessageFormat → List (List ℕ) → List (List ℕ) → Refusal → ℕ → Place → ℕ → List ℕ → Type 0
+IsRestStated format files sources (lex n fault) number place errors text = (text ≡ []) × (errors ≡ 1)
+IsRestStated format files sources (parse n fault) number place errors text = (text ≡ []) × (errors ≡ 1)
+IsRestStated format files sources (plan planning.TooMany m i) number place errors text = (text ≡ []) × (errors ≡ 1)
+IsRestStated format files sources (plan (planning.Duplicate k) m i) number place errors text = HasTwinStated format files sources k m text × (errors ≡ 1)
+IsRestStated format files sources (plan (planning.Missing k j) m i) number place errors text = AreFurtherStated format files sources (record { number = number; place = place; name = i }) errors text
+IsRestStated format files sources (plan (planning.Cycle k) m i) number place errors text = (ways : List Way) × AreEach (IsWayStated format files sources) ways text × (errors ≡ 1)
+IsRestStated format files sources (plan planning.Memory m i) number place errors text = (text ≡ []) × (errors ≡ 1)
 
 -- a message of the refusal at its place, the text after it, and the number of errors that they report
-pub record AreRefusalMessages (paint : Paint) (files sources : List (List ℕ)) (refusal : Refusal) (errors : ℕ) (text : List ℕ) : Type 0 where
+pub record AreRefusalMessages (format : MessageFormat) (files sources : List (List ℕ)) (refusal : Refusal) (errors : ℕ) (text : List ℕ) : Type 0 where
   pub subject : Subject
   pub subject_is : IsRefusedSubject sources refusal subject
   pub number : ℕ
   pub place : Place
   pub placed : IsRefusedAt sources refusal number place
   pub first : List ℕ
-  pub told : IsMessageAt paint files sources number place subject first
-  pub behind : List ℕ
-  pub followed : IsBehind paint files sources refusal number place errors behind
-  pub whole : text ≡ first ++ behind
+  pub stated : IsMessageAt format files sources number place subject first
+  pub rest : List ℕ
+  pub followed : IsRestStated format files sources refusal number place errors rest
+  pub whole : text ≡ first ++ rest
 
 -- these messages, then one for the first fault of each further source, and the counts. No module is skipped
-pub record IsRefusalStated (paint : Paint) (files sources : List (List ℕ)) (refusal : Refusal) (text : List ℕ) : Type 0 where
+pub record IsRefusalStated (format : MessageFormat) (files sources : List (List ℕ)) (refusal : Refusal) (text : List ℕ) : Type 0 where
   pub messages : List ℕ
   pub errors : ℕ
-  pub told : AreRefusalMessages paint files sources refusal errors messages
+  pub stated : AreRefusalMessages format files sources refusal errors messages
   pub further : List Refusal
   pub faults : AreFurtherFaults sources refusal further
-  pub behind : List ℕ
-  pub each : AreEach (λ r t. AreRefusalMessages paint files sources r 1 t) further behind
-  pub whole : text ≡ messages ++ (behind ++ count_text paint (errors + length further) 0)
+  pub rest : List ℕ
+  pub each : AreEach (λ r t. AreRefusalMessages format files sources r 1 t) further rest
+  pub whole : text ≡ messages ++ (rest ++ count_text format (errors + length further) 0)

@@ -23,13 +23,13 @@ use Rattle.hm_messages.specs.ModuleStarts.{IsModuleAround, module_start}
 use Rattle.hm_messages.specs.Refused.{IsNamedAt, IsPositionOf, IsRefusedAt, place_of}
 use Rattle.hm_messages.specs.Subjects.{Subject}
 use Rattle.hm_messages.specs.Twins.{IsTwinOf}
-use Rattle.hm_messages.specs.declared.heading.Paint.{Paint}
-use Rattle.hm_messages.specs.declared.heading.Paint.TheVariants.{Plain}
+use Rattle.hm_messages.specs.declared.heading.MessageFormat.{MessageFormat}
+use Rattle.hm_messages.specs.declared.heading.MessageFormat.TheVariants.{Plain}
 
 -- an empty source has one place, and a message there isn't empty. A message at another place is left out
 pub record MessageRow : Type 0 where
-  pub outside : (paint : Paint) (file : List ℕ) (s : Subject) → IsMessage paint file [] (record { line = 1; column = 2 }) s []
-  pub inside : (paint : Paint) (file : List ℕ) (s : Subject) → ¬ (IsMessage paint file [] (record { line = 1; column = 1 }) s [])
+  pub outside : (format : MessageFormat) (file : List ℕ) (s : Subject) → IsMessage format file [] (record { line = 1; column = 2 }) s []
+  pub inside : (format : MessageFormat) (file : List ℕ) (s : Subject) → ¬ (IsMessage format file [] (record { line = 1; column = 1 }) s [])
 
 -- a fault of the second of two sources may be one of theirs. A fault of source 3 or 0 isn't
 pub record ForeignRow : Type 0 where

@@ -3,7 +3,7 @@ ghost use Rattle.std.specs.Prelude.{IfOk};
 ghost use Rattle.hm_messages_details.specs.Details.{known_of};
 ghost use Rattle.hm_messages.specs.Messages.{IsFaultMessage, IsOther};
 
-use crate::heading::Paint;
+use crate::heading::MessageFormat;
 use crate::messages::message;
 use crate::pages::Page;
 use crate::topic::Topic;
@@ -25,7 +25,7 @@ fn other_at(page: &Page<'_>, detail: &Detail<'_>) -> Option<Position>
         Detail::Either(_, _) => None,
         Detail::Arguments(_, _) => None,
         Detail::Patterns(_, _) => None,
-        Detail::NotFrom(_, _) => None,
+        Detail::NotFrom(_, _, _) => None,
         Detail::NearBinding(_) => None,
         Detail::Elsewhere(_) => None,
         Detail::ByPattern => None,
@@ -36,12 +36,12 @@ fn other_at(page: &Page<'_>, detail: &Detail<'_>) -> Option<Position>
 /// Returns the message of a fault with this detail. The text is empty if no message can name the fault's place.
 pub fn fault_message(
     alloc: Global,
-    paint: Paint,
+    format: MessageFormat,
     page: &Page<'_>,
     fault: &Fault,
     detail: Detail<'_>,
 ) -> Result<Vec<u8>, AllocError>
-    ensures { IfOk result (λ text. IsFaultMessage paint page.now.file.now page.now.lines fault.now (known_of detail.entry) text.items) }
+    ensures { IfOk result (λ text. IsFaultMessage format page.now.file.now page.now.lines fault.now (known_of detail.entry) text.items) }
 {
     let name = fault.name.as_str();
     let other = other_at(page, &detail);
@@ -51,5 +51,5 @@ pub fn fault_message(
         other,
     };
     let topic = Topic::Fault(fault.kind, named);
-    Ok(message(alloc, paint, page, fault.place, &topic)?)
+    Ok(message(alloc, format, page, fault.place, &topic)?)
 }

@@ -3,7 +3,7 @@ ghost use Rattle.std.specs.Prelude.{◌≡◌, IfOk, map, take_while};
 ghost use Rattle.hm_messages.specs.ModuleStarts.{MayBeStartsOf, is_from, start_of};
 ghost use Rattle.hm_messages.specs.Pages.{AreFilesOf, file_at, files_in, starts_in, texts_in};
 
-use crate::heading::Paint;
+use crate::heading::MessageFormat;
 use crate::pages::{Page, Pages};
 use crate::starts::{ModuleStart, SourceModules};
 use hm_messages_excerpts::SourceLines;
@@ -41,13 +41,13 @@ fn file_at<'a>(names: &'a [Vec<u8>], number: usize) -> &'a [u8]
 /// known.
 pub fn pages_of<'a>(
     alloc: Global,
-    paint: Paint,
+    format: MessageFormat,
     sources: &'a [Vec<u8>],
     names: &'a [Vec<u8>],
     starts: &[ModuleStart<'a>],
 ) -> Result<Pages<'a>, AllocError>
     requires { MayBeStartsOf (map (λ s. s.items) sources.now) starts.now }
-    ensures paint { IfOk result (λ pages. pages.paint ≡ paint) }
+    ensures format { IfOk result (λ pages. pages.format ≡ format) }
     ensures texts { IfOk result (λ pages. texts_in pages.items.items ≡ map (λ s. s.items) sources.entry.now) }
     ensures files { IfOk result (λ pages. AreFilesOf (map (λ s. s.items) names.entry.now) (map (λ s. s.items) sources.entry.now) (files_in pages.items.items)) }
     ensures starts { IfOk result (λ pages. starts_in pages.items.items ≡ map start_of starts.now) }
@@ -67,5 +67,5 @@ pub fn pages_of<'a>(
             modules,
         })?;
     }
-    Ok(Pages { paint, items })
+    Ok(Pages { format, items })
 }

@@ -15,7 +15,7 @@ use std::alloc::{AllocError, Global};
 
 /// How messages are written.
 #[derive(Clone, Copy, Debug, PartialEq, Eq)]
-pub enum Paint {
+pub enum MessageFormat {
     Plain,
     /// For a reader, with the escapes of a terminal.
     Coloured,
@@ -24,15 +24,15 @@ pub enum Paint {
 }
 
 /// Returns the word of a level, after the escape that begins its colour.
-pub(crate) fn begin(paint: Paint, level: Level) -> &'static str
-    ensures { result.now ≡ begin paint level }
+pub(crate) fn begin(format: MessageFormat, level: Level) -> &'static str
+    ensures { result.now ≡ begin format level }
 {
-    match paint {
-        Paint::Plain | Paint::Json => match level {
+    match format {
+        MessageFormat::Plain | MessageFormat::Json => match level {
             Level::Error => "error",
             Level::Note => "note",
         },
-        Paint::Coloured => match level {
+        MessageFormat::Coloured => match level {
             Level::Error => "\x1b[1;31merror",
             Level::Note => "\x1b[1;36mnote",
         },
@@ -40,12 +40,12 @@ pub(crate) fn begin(paint: Paint, level: Level) -> &'static str
 }
 
 /// Returns the escape that ends a colour.
-pub(crate) fn end(paint: Paint) -> &'static str
-    ensures { result.now ≡ end paint }
+pub(crate) fn end(format: MessageFormat) -> &'static str
+    ensures { result.now ≡ end format }
 {
-    match paint {
-        Paint::Plain | Paint::Json => "",
-        Paint::Coloured => "\x1b[0m",
+    match format {
+        MessageFormat::Plain | MessageFormat::Json => "",
+        MessageFormat::Coloured => "\x1b[0m",
     }
 }
 
@@ -389,11 +389,11 @@ fn tag(alloc: Global, level: Level, kind: &str) -> Result<String, AllocError>
 /// Returns the first line of a message, after the name of its file.
 pub(crate) fn heading(
     alloc: Global,
-    paint: Paint,
+    format: MessageFormat,
     place: Place,
     topic: &Topic<'_>,
 ) -> Result<String, AllocError>
-    ensures { IfOk result (λ text. string_bytes text ≡ heading_bytes paint place (subject_of topic.now)) }
+    ensures { IfOk result (λ text. string_bytes text ≡ heading_bytes format place (subject_of topic.now)) }
 {
     let title = title(alloc, topic)?;
     let short = shortened(alloc, title.as_bytes())?;
@@ -402,8 +402,8 @@ pub(crate) fn heading(
     let notice = notice_of(topic);
     let tag = tag(alloc, notice.level, notice.kind)?;
     let tag = tag.as_str();
-    let begin = begin(paint, notice.level);
-    let end = end(paint);
+    let begin = begin(format, notice.level);
+    let end = end(format);
     let Place { line, column } = place;
     format!(in alloc; ":{line}:{column}: {begin}{end}: {says}{tag}\n")
 }

@@ -22,7 +22,7 @@ mod topic;
 pub use crate::counts::{count_text, further_text};
 pub use crate::faults::fault_message;
 pub use crate::files::pages_of;
-pub use crate::heading::Paint;
+pub use crate::heading::MessageFormat;
 pub use crate::messages::{MessageFault, message, message_with, reader_place};
 pub use crate::objects::Suggestion;
 pub use crate::pages::{Page, Pages};

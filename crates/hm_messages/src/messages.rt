@@ -8,7 +8,7 @@ ghost use Rattle.hm_messages.specs.Messages.{HasNoReaderPlace, IsHeadingAt, IsMe
 ghost use Rattle.hm_messages.specs.Extras.{extras_of};
 ghost use Rattle.hm_messages.specs.Subjects.{subject_of};
 
-use crate::heading::{Paint, heading};
+use crate::heading::{MessageFormat, heading};
 use crate::notices::notice_of;
 use crate::objects::{Suggestion, object, object_with};
 use crate::pages::Page;
@@ -53,14 +53,14 @@ pub fn reader_place(page: &Page<'_>, place: Place) -> Option<Place>
 /// Returns the first line of a message at a place as readers count it.
 fn first_line(
     alloc: Global,
-    paint: Paint,
+    format: MessageFormat,
     page: &Page<'_>,
     place: Place,
     topic: &Topic<'_>,
 ) -> Result<Vec<u8>, AllocError>
-    ensures { IfOk result (λ text. text.items ≡ shown_bytes page.now.file.now ++ heading_bytes paint place (subject_of topic.now)) }
+    ensures { IfOk result (λ text. text.items ≡ shown_bytes page.now.file.now ++ heading_bytes format place (subject_of topic.now)) }
 {
-    let heading = heading(alloc, paint, place, topic)?;
+    let heading = heading(alloc, format, place, topic)?;
     let file = shown(alloc, page.file)?;
     let mut text = Vec::from_slice(alloc, file.as_bytes())?;
     text.extend_from_slice(heading.as_bytes())?;
@@ -70,38 +70,38 @@ fn first_line(
 /// Returns the first line of a message for a reader, or no text if no message for a reader can name the place.
 fn prose_heading(
     alloc: Global,
-    paint: Paint,
+    format: MessageFormat,
     page: &Page<'_>,
     place: Place,
     topic: &Topic<'_>,
 ) -> Result<Vec<u8>, AllocError>
-    ensures { IfOk result (λ text. IsProseHeading paint page.now.file.now page.now.lines place (subject_of topic.now) text.items
+    ensures { IfOk result (λ text. IsProseHeading format page.now.file.now page.now.lines place (subject_of topic.now) text.items
         ⊎ ((text.items ≡ []) × HasNoReaderPlace page.now.lines place)) }
 {
-    let Some(told) = reader_place(page, place) else {
+    let Some(at) = reader_place(page, place) else {
         return Ok(Vec::new(alloc));
     };
-    Ok(first_line(alloc, paint, page, told, topic)?)
+    Ok(first_line(alloc, format, page, at, topic)?)
 }
 
 /// Returns the message of a topic for a reader, or no text if no message for a reader can name the place.
 fn prose(
     alloc: Global,
-    paint: Paint,
+    format: MessageFormat,
     page: &Page<'_>,
     place: Place,
     topic: &Topic<'_>,
 ) -> Result<Vec<u8>, AllocError>
-    ensures { IfOk result (λ text. IsProse paint page.now.file.now page.now.lines place (subject_of topic.now) text.items
+    ensures { IfOk result (λ text. IsProse format page.now.file.now page.now.lines place (subject_of topic.now) text.items
         ⊎ ((text.items ≡ []) × HasNoReaderPlace page.now.lines place)) }
 {
-    let Some(told) = reader_place(page, place) else {
+    let Some(at) = reader_place(page, place) else {
         return Ok(Vec::new(alloc));
     };
     let Some(excerpt) = page.lines.excerpt(place) else {
         return Ok(Vec::new(alloc));
     };
-    let mut text = first_line(alloc, paint, page, told, topic)?;
+    let mut text = first_line(alloc, format, page, at, topic)?;
     text.extend_from_slice(notice_of(topic).sentence.as_bytes())?;
     add_excerpt(alloc, &mut text, &excerpt)?;
     Ok(text)
@@ -111,17 +111,23 @@ fn prose(
 /// the place.
 pub(crate) fn heading_at(
     alloc: Global,
-    paint: Paint,
+    format: MessageFormat,
     page: &Page<'_>,
     place: Place,
     topic: &Topic<'_>,
 ) -> Result<Vec<u8>, AllocError>
-    ensures { IfOk result (λ text. IsHeadingAt paint page.now.file.now page.now.lines place (subject_of topic.now) text.items) }
+    ensures { IfOk result (λ text. IsHeadingAt format page.now.file.now page.now.lines place (subject_of topic.now) text.items) }
 {
-    match paint {
-        Paint::Plain => Ok(prose_heading(alloc, Paint::Plain, page, place, topic)?),
-        Paint::Coloured => Ok(prose_heading(alloc, Paint::Coloured, page, place, topic)?),
-        Paint::Json => Ok(object(alloc, page, place, topic)?),
+    match format {
+        MessageFormat::Plain => Ok(prose_heading(alloc, MessageFormat::Plain, page, place, topic)?),
+        MessageFormat::Coloured => Ok(prose_heading(
+            alloc,
+            MessageFormat::Coloured,
+            page,
+            place,
+            topic,
+        )?),
+        MessageFormat::Json => Ok(object(alloc, page, place, topic)?),
     }
 }
 
@@ -129,17 +135,17 @@ pub(crate) fn heading_at(
 /// Returns the message of a topic at a place of a source. The text is empty if no message can name the place.
 pub fn message(
     alloc: Global,
-    paint: Paint,
+    format: MessageFormat,
     page: &Page<'_>,
     place: Place,
     topic: &Topic<'_>,
 ) -> Result<Vec<u8>, AllocError>
-    ensures { IfOk result (λ text. IsMessage paint page.now.file.now page.now.lines place (subject_of topic.now) text.items) }
+    ensures { IfOk result (λ text. IsMessage format page.now.file.now page.now.lines place (subject_of topic.now) text.items) }
 {
-    match paint {
-        Paint::Plain => Ok(prose(alloc, Paint::Plain, page, place, topic)?),
-        Paint::Coloured => Ok(prose(alloc, Paint::Coloured, page, place, topic)?),
-        Paint::Json => Ok(object(alloc, page, place, topic)?),
+    match format {
+        MessageFormat::Plain => Ok(prose(alloc, MessageFormat::Plain, page, place, topic)?),
+        MessageFormat::Coloured => Ok(prose(alloc, MessageFormat::Coloured, page, place, topic)?),
+        MessageFormat::Json => Ok(object(alloc, page, place, topic)?),
     }
 }
 
@@ -147,17 +153,17 @@ pub fn message(
 /// place.
 pub fn message_with(
     alloc: Global,
-    paint: Paint,
+    format: MessageFormat,
     page: &Page<'_>,
     suggestion: &Suggestion<'_>,
 ) -> Result<Vec<u8>, AllocError>
-    ensures { IfOk result (λ text. IsMessageWith paint page.now.file.now page.now.lines suggestion.now.place (subject_of suggestion.now.topic)
+    ensures { IfOk result (λ text. IsMessageWith format page.now.file.now page.now.lines suggestion.now.place (subject_of suggestion.now.topic)
         (extras_of suggestion.now) text.items) }
 {
     let Suggestion { place, topic, .. } = *suggestion;
-    match paint {
-        Paint::Plain => Ok(prose(alloc, Paint::Plain, page, place, &topic)?),
-        Paint::Coloured => Ok(prose(alloc, Paint::Coloured, page, place, &topic)?),
-        Paint::Json => Ok(object_with(alloc, page, suggestion)?),
+    match format {
+        MessageFormat::Plain => Ok(prose(alloc, MessageFormat::Plain, page, place, &topic)?),
+        MessageFormat::Coloured => Ok(prose(alloc, MessageFormat::Coloured, page, place, &topic)?),
+        MessageFormat::Json => Ok(object_with(alloc, page, suggestion)?),
     }
 }

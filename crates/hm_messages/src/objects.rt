@@ -44,7 +44,7 @@ pub(crate) fn object_with(
     page: &Page<'_>,
     suggestion: &Suggestion<'_>,
 ) -> Result<Vec<u8>, AllocError>
-    ensures told { IfOk result (λ text. IsObjectWith page.now.file.now page.now.lines suggestion.now.place (subject_of suggestion.now.topic)
+    ensures stated { IfOk result (λ text. IsObjectWith page.now.file.now page.now.lines suggestion.now.place (subject_of suggestion.now.topic)
         (extras_of suggestion.now) text.items
         ⊎ ((text.items ≡ []) × (¬ IsPlaceIn page.now.lines suggestion.now.place))) }
     ensures among { IfOk result (λ text. NamesModule page.now.modules.starts suggestion.now.place text.items ⊎ (text.items ≡ [])) }
@@ -96,7 +96,7 @@ pub(crate) fn object(
     place: Place,
     topic: &Topic<'_>,
 ) -> Result<Vec<u8>, AllocError>
-    ensures told { IfOk result (λ text. IsObject page.now.file.now page.now.lines place (subject_of topic.now) text.items
+    ensures stated { IfOk result (λ text. IsObject page.now.file.now page.now.lines place (subject_of topic.now) text.items
         ⊎ ((text.items ≡ []) × (¬ IsPlaceIn page.now.lines place))) }
     ensures among { IfOk result (λ text. NamesModule page.now.modules.starts place text.items ⊎ (text.items ≡ [])) }
 {

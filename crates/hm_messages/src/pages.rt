@@ -1,7 +1,7 @@
 //! Sources as messages show them.
 ghost use Rattle.std.specs.Prelude.{◌≡◌};
 
-use crate::heading::Paint;
+use crate::heading::MessageFormat;
 use crate::starts::SourceModules;
 use hm_messages_excerpts::SourceLines;
 
@@ -17,6 +17,6 @@ pub struct Page<'a> {
 /// Sources as messages show them, in order, and the form of the messages.
 #[derive(Drop)]
 pub struct Pages<'a> {
-    pub paint: Paint,
+    pub format: MessageFormat,
     pub items: Vec<Page<'a>>,
 }

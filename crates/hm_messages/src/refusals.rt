@@ -72,11 +72,11 @@ fn message_at(
     topic: &Topic<'_>,
 ) -> Result<Vec<u8>, AllocError>
     requires { spot.source < length (texts_in pages.now.items.items) }
-    ensures { IfOk result (λ text. IsMessageAt pages.now.paint (files_in pages.now.items.items) (texts_in pages.now.items.items) spot.source
+    ensures { IfOk result (λ text. IsMessageAt pages.now.format (files_in pages.now.items.items) (texts_in pages.now.items.items) spot.source
         spot.place (subject_of topic.now) text.items) }
 {
     let page = &pages.items[spot.source];
-    Ok(message(alloc, pages.paint, page, spot.place, topic)?)
+    Ok(message(alloc, pages.format, page, spot.place, topic)?)
 }
 
 /// Returns whether a source has this number, counted from 1.
@@ -96,7 +96,7 @@ fn source_messages(
     topic: &Topic<'_>,
 ) -> Result<Vec<u8>, AllocError>
     requires { HasSource (texts_in pages.now.items.items) source }
-    ensures { IfOk result (λ text. IsMessageAt pages.now.paint (files_in pages.now.items.items) (texts_in pages.now.items.items) (source - 1)
+    ensures { IfOk result (λ text. IsMessageAt pages.now.format (files_in pages.now.items.items) (texts_in pages.now.items.items) (source - 1)
         place (subject_of topic.now) text.items) }
 {
     let source = source - 1;
@@ -148,7 +148,7 @@ fn lex_messages(
     fault: LexFault,
 ) -> Result<Vec<u8>, AllocError>
     requires { HasSource (texts_in pages.now.items.items) source }
-    ensures { IfOk result (λ text. AreRefusalMessages pages.now.paint (files_in pages.now.items.items) (texts_in pages.now.items.items)
+    ensures { IfOk result (λ text. AreRefusalMessages pages.now.format (files_in pages.now.items.items) (texts_in pages.now.items.items)
         (lex source fault) 1 text.items) }
 {
     match fault {
@@ -198,7 +198,7 @@ fn parse_messages(
 ) -> Result<Vec<u8>, AllocError>
     requires inside { HasSource (texts_in pages.now.items.items) source }
     requires advised { IsAdvised (texts_in pages.now.items.items) (parse source fault) advice.hint advice.text.now advice.elsewhere }
-    ensures { IfOk result (λ text. AreRefusalMessages pages.now.paint (files_in pages.now.items.items) (texts_in pages.now.items.items)
+    ensures { IfOk result (λ text. AreRefusalMessages pages.now.format (files_in pages.now.items.items) (texts_in pages.now.items.items)
         (parse source fault) 1 text.items) }
 {
     match fault {
@@ -229,7 +229,7 @@ fn step_line(
 ) -> Result<Vec<u8>, AllocError>
     requires { AreLocated (texts_in pages.now.items.items) located.now }
     ensures { IfOk result (λ text. (ways : List Way)
-        × AreEach (IsWayStated pages.now.paint (files_in pages.now.items.items) (texts_in pages.now.items.items)) ways text.items) }
+        × AreEach (IsWayStated pages.now.format (files_in pages.now.items.items) (texts_in pages.now.items.items)) ways text.items) }
 {
     let Some(spot) = import_spot(located, step) else {
         return Ok(Vec::new(alloc));
@@ -243,7 +243,7 @@ fn step_line(
     };
     let topic = Topic::Step(header.name.as_str(), import.name.as_str());
     let page = &pages.items[spot.source];
-    Ok(heading_at(alloc, pages.paint, page, spot.place, &topic)?)
+    Ok(heading_at(alloc, pages.format, page, spot.place, &topic)?)
 }
 
 /// Returns a line for each step in a cycle.
@@ -255,7 +255,7 @@ fn step_lines(
 ) -> Result<Vec<u8>, AllocError>
     requires { AreLocated (texts_in pages.now.items.items) located.now }
     ensures { IfOk result (λ text. (ways : List Way)
-        × AreEach (IsWayStated pages.now.paint (files_in pages.now.items.items) (texts_in pages.now.items.items)) ways text.items) }
+        × AreEach (IsWayStated pages.now.format (files_in pages.now.items.items) (texts_in pages.now.items.items)) ways text.items) }
 {
     let mut text = Vec::new(alloc);
     for step in steps {
@@ -290,7 +290,7 @@ fn cycle_messages(
 ) -> Result<Vec<u8>, AllocError>
     requires located { AreLocated (texts_in pages.now.items.items) located.now }
     requires inside { start < length located.now }
-    ensures { IfOk result (λ text. (number : ℕ) × (place : Place) × AreMessagesOf pages.now.paint (files_in pages.now.items.items) (texts_in pages.now.items.items)
+    ensures { IfOk result (λ text. (number : ℕ) × (place : Place) × AreMessagesOf pages.now.format (files_in pages.now.items.items) (texts_in pages.now.items.items)
         number place (cycle name.now) text.items × IsNamedAt (texts_in pages.now.items.items) number place) }
 {
     let steps = cycle_of(alloc, located, start)?;
@@ -330,7 +330,7 @@ fn twin_note(
 ) -> Result<Vec<u8>, AllocError>
     requires { All (λ l. l.source < length (texts_in pages.now.items.items)) earlier.now }
     ensures { IfOk result (λ text. (twin : Option Row) × IsTwinOf name.now earlier.now twin
-        × IsTwinStated pages.now.paint (files_in pages.now.items.items) (texts_in pages.now.items.items) name.now twin text.items) }
+        × IsTwinStated pages.now.format (files_in pages.now.items.items) (texts_in pages.now.items.items) name.now twin text.items) }
 {
     let Some(here) = module_called(earlier, name) else {
         return Ok(Vec::new(alloc));
@@ -352,11 +352,11 @@ fn twice_messages(
 ) -> Result<Vec<u8>, AllocError>
     requires located { AreLocated (texts_in pages.now.items.items) located.now }
     requires inside { number < length located.now }
-    ensures { IfOk result (λ text. (at : ℕ) × (place : Place) × (first : List ℕ) × (behind : List ℕ)
-        × IsMessageAt pages.now.paint (files_in pages.now.items.items) (texts_in pages.now.items.items) at place (twice name.now) first
+    ensures { IfOk result (λ text. (at : ℕ) × (place : Place) × (first : List ℕ) × (rest : List ℕ)
+        × IsMessageAt pages.now.format (files_in pages.now.items.items) (texts_in pages.now.items.items) at place (twice name.now) first
         × IsNamedAt (texts_in pages.now.items.items) at place
-        × HasTwinStated pages.now.paint (files_in pages.now.items.items) (texts_in pages.now.items.items) number name.now behind
-        × (text.items ≡ first ++ behind)) }
+        × HasTwinStated pages.now.format (files_in pages.now.items.items) (texts_in pages.now.items.items) number name.now rest
+        × (text.items ≡ first ++ rest)) }
 {
     let spot = module_spot(located, number);
     let mut text = message_at(alloc, pages, spot, &Topic::Twice(name))?;
@@ -382,7 +382,7 @@ fn missing_message(
 ) -> Result<Vec<u8>, AllocError>
     requires located { AreLocated (texts_in pages.now.items.items) located.now }
     requires inside { import.now.source < length (texts_in pages.now.items.items) }
-    ensures { IfOk result (λ text. IsMissingStated pages.now.paint (files_in pages.now.items.items) (texts_in pages.now.items.items) (import_of import.now)
+    ensures { IfOk result (λ text. IsMissingStated pages.now.format (files_in pages.now.items.items) (texts_in pages.now.items.items) (import_of import.now)
         text.items) }
 {
     let spot = Spot {
@@ -402,7 +402,7 @@ fn further_messages(
 ) -> Result<Vec<u8>, AllocError>
     requires located { AreLocated (texts_in pages.now.items.items) located.now }
     requires inside { All (λ i. i.source < length (texts_in pages.now.items.items)) imports.now }
-    ensures { IfOk result (λ text. AreEach (λ i t. IsMissingStated pages.now.paint (files_in pages.now.items.items) (texts_in pages.now.items.items) (import_of i) t)
+    ensures { IfOk result (λ text. AreEach (λ i t. IsMissingStated pages.now.format (files_in pages.now.items.items) (texts_in pages.now.items.items) (import_of i) t)
         imports.now text.items) }
 {
     let mut text = Vec::new(alloc);
@@ -431,11 +431,11 @@ fn missing_messages(
     name: &str,
 ) -> Result<Messages, MessageFault>
     requires { AreLocated (texts_in pages.now.items.items) located.now }
-    ensures ok { IfOk result (λ told. (number : ℕ) × (place : Place) × (first : List ℕ) × (behind : List ℕ)
-        × IsMissingStated pages.now.paint (files_in pages.now.items.items) (texts_in pages.now.items.items) (record { number = number; place = place; name = name.now }) first
+    ensures ok { IfOk result (λ stated. (number : ℕ) × (place : Place) × (first : List ℕ) × (rest : List ℕ)
+        × IsMissingStated pages.now.format (files_in pages.now.items.items) (texts_in pages.now.items.items) (record { number = number; place = place; name = name.now }) first
         × IsNamedAt (texts_in pages.now.items.items) number place
-        × AreFurtherStated pages.now.paint (files_in pages.now.items.items) (texts_in pages.now.items.items) (record { number = number; place = place; name = name.now }) told.errors behind
-        × (told.text.items ≡ first ++ behind)) }
+        × AreFurtherStated pages.now.format (files_in pages.now.items.items) (texts_in pages.now.items.items) (record { number = number; place = place; name = name.now }) stated.errors rest
+        × (stated.text.items ≡ first ++ rest)) }
     ensures foreign { IsErrOf result MessageFault.Foreign → HasNoMissing (texts_in pages.now.items.items) name.now }
 {
     let imports = missing_imports(alloc, located)?;
@@ -460,8 +460,8 @@ fn plan_messages(
     refused: &Refused<'_>,
 ) -> Result<Messages, MessageFault>
     requires { AreLocated (texts_in pages.now.items.items) located.now }
-    ensures ok { IfOk result (λ told. AreRefusalMessages pages.now.paint (files_in pages.now.items.items) (texts_in pages.now.items.items)
-        (plan refused.now.fault refused.now.name.now refused.now.import.now) told.errors told.text.items) }
+    ensures ok { IfOk result (λ stated. AreRefusalMessages pages.now.format (files_in pages.now.items.items) (texts_in pages.now.items.items)
+        (plan refused.now.fault refused.now.name.now refused.now.import.now) stated.errors stated.text.items) }
     ensures foreign { IsErrOf result MessageFault.Foreign → IsForeignPlan (texts_in pages.now.items.items) refused.now.fault refused.now.import.now }
 {
     let name = refused.name;
@@ -508,7 +508,7 @@ pub fn source_message(
     advice: Advice<'_>,
 ) -> Result<Vec<u8>, MessageFault>
     requires advised { IsAdvised (texts_in pages.now.items.items) fault.now advice.hint advice.text.now advice.elsewhere }
-    ensures ok { IfOk result (λ text. AreRefusalMessages pages.now.paint (files_in pages.now.items.items) (texts_in pages.now.items.items)
+    ensures ok { IfOk result (λ text. AreRefusalMessages pages.now.format (files_in pages.now.items.items) (texts_in pages.now.items.items)
         fault.now 1 text.items) }
     ensures foreign { IsErrOf result MessageFault.Foreign → IsOfNoSource (texts_in pages.now.items.items) fault.now }
 {
@@ -547,8 +547,8 @@ pub fn refusal_messages(
 ) -> Result<Messages, MessageFault>
     requires advised { IsAdvised (texts_in pages.now.items.items) fault.now advice.hint advice.text.now advice.elsewhere }
     requires headers { AreHeadersFor (texts_in pages.now.items.items) fault.now located.now }
-    ensures ok { IfOk result (λ told. AreRefusalMessages pages.now.paint (files_in pages.now.items.items) (texts_in pages.now.items.items)
-        fault.now told.errors told.text.items) }
+    ensures ok { IfOk result (λ stated. AreRefusalMessages pages.now.format (files_in pages.now.items.items) (texts_in pages.now.items.items)
+        fault.now stated.errors stated.text.items) }
     ensures foreign { IsErrOf result MessageFault.Foreign → IsForeign (texts_in pages.now.items.items) fault.now }
 {
     let SetFaultKind::Plan {

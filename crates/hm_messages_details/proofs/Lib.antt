@@ -1,3 +1,4 @@
+mod Exporting
 mod Arities
 mod BoundByPatterns
 mod Found

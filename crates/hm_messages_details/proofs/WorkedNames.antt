@@ -1,10 +1,11 @@
 -- The worked names of imports and signatures.
-use Rattle.std.proofs.Common.{◌≡◌, ◌∷◌, ◌∙◌, ◌+◌, [], ℕ, List, All, None, ⊎_elim, ap, arith, inl, inr, refl, subst, sym}
+use Rattle.std.proofs.Common.{◌≡◌, ◌∷◌, ◌∙◌, ◌+◌, [], ℕ, List, All, None, Some, ⊎_elim, ap, arith, inl, inr, refl, subst, sym}
 use Rattle.std.proofs.lemmas.List.Elements.{All-cons, All-nil}
 use Rattle.std.specs.Prelude.{Contains, codes}
 use Rattle.hm_syntax.specs.Names.{Identifier}
 use Rattle.hm_syntax.specs.declared.ast.Import.{Import}
 use Rattle.hm_types.specs.declared.Entity.{Entity}
+use Rattle.hm_types.specs.declared.entries.TypeEntry.{TypeEntry}
 use Rattle.hm_types.specs.Interfaces.{Exports as Interface}
 use Rattle.hm_names.specs.Entities.{Exports}
 use Rattle.hm_names.specs.Faults.Phases.{fault}
@@ -14,9 +15,10 @@ use Rattle.hm_names.specs.declared.namespace.Namespace.{Namespace}
 use Rattle.hm_names.specs.declared.namespace.Namespace.TheVariants.{Types, Constructors, Values}
 use Rattle.hm_names.proofs.Members.{cases, none_in}
 use Rattle.hm_messages_details.specs.Candidates.{IsInLine}
+use Rattle.hm_messages_details.specs.NearExports.{CanBeListed, a_constructor as a_part, a_value as a_variable}
 use Rattle.hm_messages_details.specs.Nearness.{IsSmallForm}
 use Rattle.hm_messages_details.specs.Listed.{IsListedAs, a_constructor, a_type}
-use Rattle.hm_messages_details.specs.Worked.{ImportLineRow, ListedRow, NearBindingRow, PatternRow, SmallFormRow, SpaceRow, constructor_item, import_on, name_on, two_imports}
+use Rattle.hm_messages_details.specs.Worked.{ImportLineRow, ListedRow, NearBindingRow, NearExportRow, PatternRow, SmallFormRow, SpaceRow, constructor_item, import_on, name_on, two_imports}
 use Rattle.hm_lex.specs.declared.token.Place.{Place}
 
 pub worked_listed : ListedRow
@@ -27,6 +29,15 @@ worked_listed = record {
   where
     not_alone : ¬ (IsListedAs (fault NotExported (name_on (codes "D") 2)) constructor_item None)
     not_alone (a_type at) = let lines : 2 ≡ 1 = ap (λ (p : Place). p.line) at.place_is in omega (arith, lines)
+
+no_part : (i : Interface) (y : List ℕ) → i.types ≡ [] → ¬ (CanBeListed i y (Some (codes "Tree")))
+no_part i y none (a_part b) = none_in b.type (subst (λ (l : List TypeEntry). Contains l b.type) none b.exports_type)
+
+pub worked_near_exports : NearExportRow
+worked_near_exports = record {
+  a_variable = λ i r among named near. record { listable = a_variable among named; near = near };
+  no_type = λ i y none h. no_part i y none h.listable;
+}
 
 first_letter : List ℕ → ℕ
 first_letter [] = 0

@@ -15,6 +15,7 @@ use Rattle.hm_messages_details.specs.Counts.{AreArguments, AreLengths}
 use Rattle.hm_messages_details.specs.Firsts.{IsFirst}
 use Rattle.hm_messages_details.specs.LeftOut.{IsOfReport}
 use Rattle.hm_messages_details.specs.Listed.{IsListedFrom}
+use Rattle.hm_messages_details.specs.NearExports.{IsNearExportOf}
 use Rattle.hm_messages_details.specs.NearBindings.{HasNearBinding}
 use Rattle.hm_messages_details.specs.NearLocals.{HasNearLocal}
 use Rattle.hm_messages_details.specs.Nearness.{AreNear, IsSmallForm}
@@ -28,7 +29,7 @@ use Rattle.hm_messages_details.specs.declared.role.Role.{Role}
 
 -- nothing; a name in scope that is near, by its qualifier and its text; a local variable that is near; the Report's Prelude has the name, as what it stands for; two entities that it stands for; the place of
 -- the first name that is the same; its arguments and how many it takes; the patterns of the clause and of the first one; the module that doesn't export
--- the name, or not as a constructor of a type; a near name that the list of the signature binds; the namespace in which the name is in scope; a pattern
+-- the name, or not as a constructor of a type, and a near name that it exports; a near name that the list of the signature binds; the namespace in which the name is in scope; a pattern
 -- binds the variable of the signature
 pub data Known : Type 0 where
   nothing : Known
@@ -39,7 +40,7 @@ pub data Known : Type 0 where
   first : Place → Known
   arguments : ℕ → ℕ → Known
   lengths : ℕ → ℕ → Known
-  not_from : List ℕ → Option (List ℕ) → Known
+  not_from : List ℕ → Option (List ℕ) → Option (List ℕ) → Known
   near_binding : List ℕ → Known
   elsewhere : Namespace → Known
   by_pattern : Known
@@ -59,7 +60,7 @@ known_of (detail.Either c d) = either (candidate_of c) (candidate_of d)
 known_of (detail.First p) = first p
 known_of (detail.Arguments here takes) = arguments here takes
 known_of (detail.Patterns here others) = lengths here others
-known_of (detail.NotFrom x t) = not_from x.now (option_map (λ s. s.now) t)
+known_of (detail.NotFrom x t y) = not_from x.now (option_map (λ s. s.now) t) (option_map (λ s. s.now) y)
 known_of (detail.NearBinding x) = near_binding x.now
 known_of (detail.Elsewhere s) = elsewhere s
 known_of detail.ByPattern = by_pattern
@@ -117,7 +118,7 @@ IsKnown m fs f (either c d) = (f.kind ≡ Ambiguous) × IsEither m fs f.name c d
 IsKnown m fs f (first p) = ((f.kind ≡ Duplicate) ⊎ (f.kind ≡ NonLinear)) × IsFirst m f p
 IsKnown m fs f (arguments here takes) = (f.kind ≡ Arity) × AreArguments m fs f here takes
 IsKnown m fs f (lengths here others) = (f.kind ≡ ClauseLength) × AreLengths m f here others
-IsKnown m fs f (not_from x t) = (f.kind ≡ NotExported) × IsListedFrom m f x t
+IsKnown m fs f (not_from x t y) = (f.kind ≡ NotExported) × (IsListedFrom m f x t × IsNearExportOf fs f x t y)
 IsKnown m fs f (near_binding x) = (f.kind ≡ NoBinding) × HasNearBinding m f x
 IsKnown m fs f (elsewhere s) = (f.kind ≡ Unbound) × IsElsewhere m fs f.name s
 IsKnown m fs f by_pattern = (f.kind ≡ NoBinding) × HasPatternBound m f

@@ -5,6 +5,7 @@ pub mod Firsts
 pub mod LeftOut
 pub mod Listed
 pub mod NearBindings
+pub mod NearExports
 pub mod NearLocals
 pub mod Nearness
 pub mod Parts

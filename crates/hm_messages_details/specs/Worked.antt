@@ -13,6 +13,7 @@ use Rattle.hm_syntax.specs.declared.ast.Module.{Module}
 use Rattle.hm_syntax.specs.declared.ast.SubItems.TheVariants as subs
 use Rattle.hm_types.specs.Interfaces.{Exports as Interface}
 use Rattle.hm_types.specs.declared.Entity.{Entity}
+use Rattle.hm_types.specs.declared.entries.ValueEntry.{ValueEntry}
 use Rattle.hm_names.specs.Bindings.{Pair}
 use Rattle.hm_names.specs.Faults.Phases.{fault}
 use Rattle.hm_names.specs.Entities.{Exports}
@@ -28,6 +29,7 @@ use Rattle.hm_messages_details.specs.Firsts.{IsFirstAt}
 use Rattle.hm_messages_details.specs.LeftOut.{IsLeftOutAs}
 use Rattle.hm_messages_details.specs.Listed.{IsListedAs}
 use Rattle.hm_messages_details.specs.NearBindings.{IsNearBinding}
+use Rattle.hm_messages_details.specs.NearExports.{IsNearIn}
 use Rattle.hm_messages_details.specs.NearLocals.{IsNearLocal}
 use Rattle.hm_messages_details.specs.Nearness.{AreNear, IsSmallForm}
 use Rattle.hm_messages_details.specs.PatternBindings.{IsPatternBound}
@@ -89,6 +91,11 @@ constructor_item = item.Con (name_on (codes "T") 1) (subs.Some (name_on (codes "
 pub record ListedRow : Type 0 where
   pub after : IsListedAs (fault NotExported (name_on (codes "D") 2)) constructor_item (Some (codes "T"))
   pub alone : ¬ (IsListedAs (fault NotExported (name_on (codes "D") 2)) constructor_item None)
+
+-- a variable that a module exports can be listed alone, and it may be meant if it is near. Without a type no constructor can be listed
+pub record NearExportRow : Type 0 where
+  pub a_variable : (i : Interface) (r : ValueEntry) → Contains i.values r → r.name ≡ codes "lookup" → AreNear (codes "lokup") (codes "lookup") → IsNearIn i (codes "lokup") None (codes "lookup")
+  pub no_type : (i : Interface) (y : List ℕ) → i.types ≡ [] → ¬ (IsNearIn i (codes "Nod") (Some (codes "Tree")) y)
 
 abbrev pub import_on : List ℕ → List ℕ → ℕ → Import
 import_on x k line = record { qualified = false; name = name_on x line; alias = Some (name_on k line); list = list.Every }

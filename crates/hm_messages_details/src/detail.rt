@@ -40,8 +40,8 @@ pub enum Detail<'a> {
     Arguments(usize, usize),
     /// The clause has so many patterns, and the first clause of its binding so many.
     Patterns(usize, usize),
-    /// The module with this name doesn't export the name, or not as a constructor of this type.
-    NotFrom(&'a str, Option<&'a str>),
+    /// The module with this name doesn't export the name, or not as a constructor of this type. Perhaps it exports this one, one edit away.
+    NotFrom(&'a str, Option<&'a str>, Option<&'a str>),
     /// The name has a signature without clauses, and the same list binds this one, one edit away.
     NearBinding(&'a str),
     /// The name is unbound where it stands, and in scope in this namespace.

@@ -181,8 +181,8 @@ pub fn detail_of<'s>(
     site: &Site<'_, 's, '_>,
     fault: &Fault,
 ) -> Result<Detail<'s>, AllocError>
-    ensures { IfOk result (λ detail. (fs : List Interface) → IsScopeOf site.now.program.now fs site.now.scope.now → AreTablesOf site.now.program.now fs site.now.tables.now
-        → IsKnown site.now.program.now fs fault.now (known_of detail)) }
+    ensures { IfOk result (λ detail. (fs : List Interface) → fs ≡ map (λ f. f.now) site.now.interfaces.now → IsScopeOf site.now.program.now fs site.now.scope.now
+        → AreTablesOf site.now.program.now fs site.now.tables.now → IsKnown site.now.program.now fs fault.now (known_of detail)) }
 {
     match fault.kind {
         Kind::Unbound => Ok(name_detail(alloc, site, fault)?),
@@ -191,7 +191,7 @@ pub fn detail_of<'s>(
         Kind::NonLinear => Ok(second_detail(alloc, site.program, fault)?),
         Kind::Arity => Ok(arity_detail(alloc, site, fault)?),
         Kind::ClauseLength => Ok(length_detail(alloc, site.program, fault)?),
-        Kind::NotExported => Ok(import_detail(site.program, fault)),
+        Kind::NotExported => Ok(import_detail(alloc, site.program, site.interfaces, fault)?),
         Kind::NoBinding => Ok(signature_detail(alloc, site.program, fault)?),
         _ => Ok(Detail::Nothing),
     }

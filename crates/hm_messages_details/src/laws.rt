@@ -1,5 +1,5 @@
 //! Worked examples: functions with an empty body, whose contracts have the facts.
-ghost use Rattle.hm_messages_details.specs.Worked.{ArgumentsRow, CandidateRow, FirstRow, ImportLineRow, LeftOutRow, LengthsRow, ListedRow, NearBindingRow, NearLocalRow, NearPairRow, PatternRow, RoleRow, SmallFormRow, SpaceRow};
+ghost use Rattle.hm_messages_details.specs.Worked.{ArgumentsRow, CandidateRow, FirstRow, ImportLineRow, LeftOutRow, LengthsRow, ListedRow, NearBindingRow, NearExportRow, NearLocalRow, NearPairRow, PatternRow, RoleRow, SmallFormRow, SpaceRow};
 
 /// A name that only the Report's Prelude has, and one that both have.
 #[tactic(auto, using(crate::proofs::WorkedDetails::worked_left_out))]
@@ -20,10 +20,11 @@ pub fn worked_counts()
     ensures lengths { LengthsRow }
 {}
 
-/// A constructor that an import lists, the line of an import, and the name that a signature may be meant for; and others that aren't so.
-#[tactic(auto, using(crate::proofs::WorkedNames::worked_listed, crate::proofs::WorkedNames::worked_lines, crate::proofs::WorkedNames::worked_bindings))]
+/// A constructor that an import lists, a near name of an export, the line of an import, and the name that a signature may be meant for; and others that aren't so.
+#[tactic(auto, using(crate::proofs::WorkedNames::worked_listed, crate::proofs::WorkedNames::worked_near_exports, crate::proofs::WorkedNames::worked_lines, crate::proofs::WorkedNames::worked_bindings))]
 pub fn worked_names()
     ensures listed { ListedRow }
+    ensures exports { NearExportRow }
     ensures lines { ImportLineRow }
     ensures bindings { NearBindingRow }
 {}

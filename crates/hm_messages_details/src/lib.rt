@@ -5,6 +5,7 @@
 mod candidates;
 mod counts;
 mod detail;
+mod exports;
 mod firsts;
 mod known;
 pub mod laws;

@@ -1,6 +1,5 @@
 //! Finds the import that lists a name.
-ghost use Rattle.std.specs.Prelude.{◌≡◌, List, Contains, IfSome, option_map, true};
-ghost use Rattle.hm_types.specs.Interfaces.{Exports as Interface};
+ghost use Rattle.std.specs.Prelude.{◌≡◌, Contains, IfOk, IfSome, map, option_map, true};
 ghost use Rattle.hm_syntax.specs.Names.{Identifier};
 ghost use Rattle.hm_syntax.specs.declared.ast.ImportItem.{ImportItem as ItemTree};
 ghost use Rattle.hm_syntax.specs.declared.ast.ImportItem.TheVariants as item;
@@ -10,9 +9,12 @@ ghost use Rattle.hm_messages_details.specs.Firsts.{IsAt};
 ghost use Rattle.hm_messages_details.specs.Listed.{IsListedAs, IsListedBy};
 
 use crate::detail::Detail;
+use crate::exports::near_export;
 use crate::firsts::is_at;
 use hm_names::Fault;
 use hm_syntax::{Import, ImportItem, ImportList, Module, Name, SubItems};
+use hm_types::Interface;
+use std::alloc::{AllocError, Global};
 
 /// How an import list has a name.
 #[derive(Clone, Copy)]
@@ -100,18 +102,27 @@ fn listed_by<'a>(fault: &Fault, list: &'a ImportList) -> Option<Listed<'a>>
 }
 
 // Why: docs/DECISIONS.md, "The module of an import".
-/// Returns the module from which a name can't be imported, if the import that lists it is found.
-#[tactic(auto, using(crate::proofs::Listing::listed_from))]
-pub(crate) fn import_detail<'a>(program: &'a Module, fault: &Fault) -> Detail<'a>
+/// Returns the module from which a name can't be imported, if the import that lists it is found, and a near name that the module exports.
+#[tactic(auto, using(crate::proofs::Listing::listed_near))]
+pub(crate) fn import_detail<'a>(
+    alloc: Global,
+    program: &'a Module,
+    interfaces: &[&'a Interface],
+    fault: &Fault,
+) -> Result<Detail<'a>, AllocError>
     requires { fault.now.kind ≡ NotExported }
-    ensures { (fs : List Interface) → IsKnown program.now fs fault.now (known_of result) }
+    ensures { IfOk result (λ detail. IsKnown program.now (map (λ f. f.now) interfaces.now) fault.now (known_of detail)) }
 {
     let imports = program.header.imports.as_slice();
     'imports: for import in imports {
         match listed_by(fault, &import.list) {
-            Some(listed) => return Detail::NotFrom(import.name.as_str(), listed.owner),
+            Some(listed) => {
+                let module = import.name.as_str();
+                let near = near_export(alloc, interfaces, fault, module, listed.owner)?;
+                return Ok(Detail::NotFrom(module, listed.owner, near));
+            }
             None => {}
         }
     }
-    Detail::Nothing
+    Ok(Detail::Nothing)
 }

@@ -33,6 +33,16 @@ fn qualified(alloc: Global, qualifier: Option<&str>, name: &str) -> Result<Strin
     }
 }
 
+/// Returns a copy of a name, if there is one.
+fn copied(alloc: Global, name: Option<&str>) -> Result<Option<String>, AllocError>
+    ensures { IfOk result (λ copy. option_map string_bytes copy ≡ option_map (λ n. n.now) name.entry) }
+{
+    match name {
+        Some(name) => Ok(Some(String::from_str(alloc, name)?)),
+        None => Ok(None),
+    }
+}
+
 /// Returns the name that a detail says in place of the fault's, if it says one.
 fn new_name(alloc: Global, detail: &Detail<'_>) -> Result<Option<String>, AllocError>
     ensures { IfOk result (λ name. option_map string_bytes name ≡ new_name (known_of detail.now)) }
@@ -47,7 +57,7 @@ fn new_name(alloc: Global, detail: &Detail<'_>) -> Result<Option<String>, AllocE
         Detail::First(_) => Ok(None),
         Detail::Arguments(_, _) => Ok(None),
         Detail::Patterns(_, _) => Ok(None),
-        Detail::NotFrom(_, _) => Ok(None),
+        Detail::NotFrom(_, _, near) => copied(alloc, *near),
         Detail::Elsewhere(_) => Ok(None),
         Detail::ByPattern => Ok(None),
     }

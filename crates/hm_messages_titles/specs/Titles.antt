@@ -63,6 +63,11 @@ abbrev pub not_from_text : List ℕ → Option (List ℕ) → List ℕ
 not_from_text x None = codes ": '" ++ x ++ codes "' doesn't export it"
 not_from_text x (Some t) = codes ": '" ++ x ++ codes "' doesn't export it as a constructor of '" ++ t ++ codes "'"
 
+-- the same, with a near name that it exports
+abbrev pub import_text : List ℕ → Option (List ℕ) → Option (List ℕ) → List ℕ
+import_text x t None = not_from_text x t
+import_text x t (Some y) = not_from_text x t ++ near_text None y
+
 -- what has the name in this namespace
 abbrev pub space_noun : Namespace → List ℕ
 space_noun Types = codes "type"
@@ -78,7 +83,7 @@ detail_text (either c d) = either_text c d
 detail_text (first p) = []
 detail_text (arguments here takes) = codes ": it has " ++ decimal here ++ codes " here, but takes " ++ decimal takes
 detail_text (lengths here others) = codes ": " ++ decimal here ++ codes " here, but " ++ decimal others ++ codes " in the first"
-detail_text (not_from x t) = not_from_text x t
+detail_text (not_from x t y) = import_text x t y
 detail_text (near_binding x) = near_text None x
 detail_text (elsewhere s) = codes ": a " ++ space_noun s ++ codes " has this name, but can't stand here"
 detail_text by_pattern = codes ": a pattern binds it"

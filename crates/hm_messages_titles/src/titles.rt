@@ -1,7 +1,7 @@
 //! What is wrong with a module, in a few words: the kind of a fault, its name, and what else is known of it.
 ghost use Rattle.std.specs.Prelude.{◌≡◌, ◌++◌, IfOk, option_map, string_bytes};
 ghost use Rattle.hm_messages_details.specs.Details.{candidate_of, elsewhere, known_of};
-ghost use Rattle.hm_messages_titles.specs.Titles.{both_text as both_bytes, detail_text as detail_bytes, either_text as either_bytes, fault_title as fault_title_bytes, first_text, hidden_title as hidden_title_bytes, hiding_text as hiding_bytes, kind_title as kind_title_bytes, line_text as line_bytes, near_text, not_from_text as not_from_bytes, qualified_text as qualified_bytes, space_noun as noun_bytes, written_text as written_bytes};
+ghost use Rattle.hm_messages_titles.specs.Titles.{both_text as both_bytes, detail_text as detail_bytes, either_text as either_bytes, fault_title as fault_title_bytes, first_text, hidden_title as hidden_title_bytes, hiding_text as hiding_bytes, import_text as import_bytes, kind_title as kind_title_bytes, line_text as line_bytes, near_text, not_from_text as not_from_bytes, qualified_text as qualified_bytes, space_noun as noun_bytes, written_text as written_bytes};
 
 use hm_messages_details::{Candidate, Detail, Origin};
 use hm_messages_json::Position;
@@ -173,6 +173,25 @@ fn not_from_text(alloc: Global, module: &str, owner: Option<&str>) -> Result<Str
     }
 }
 
+/// Returns the text about a module that doesn't export a name, and about a near name that it exports.
+fn import_text(
+    alloc: Global,
+    module: &str,
+    owner: Option<&str>,
+    near: Option<&str>,
+) -> Result<String, AllocError>
+    ensures { IfOk result (λ text. string_bytes text ≡ import_bytes «module».now (option_map (λ t. t.now) owner.entry) (option_map (λ y. y.now) near.entry)) }
+{
+    let mut text = not_from_text(alloc, module, owner)?;
+    match near {
+        Some(near) => {
+            text.push_str(near_text(alloc, None, near)?.as_str())?;
+            Ok(text)
+        }
+        None => Ok(text),
+    }
+}
+
 /// Returns what has a name in this namespace.
 fn space_noun(space: Namespace) -> &'static str
     ensures { result.now ≡ noun_bytes space }
@@ -208,7 +227,7 @@ fn detail_text(alloc: Global, detail: &Detail<'_>) -> Result<String, AllocError>
         Detail::Patterns(here, first) => format!(in alloc;
             ": {here} here, but {first} in the first"
         ),
-        Detail::NotFrom(module, owner) => not_from_text(alloc, module, *owner),
+        Detail::NotFrom(module, owner, near) => import_text(alloc, module, *owner, *near),
         Detail::NearBinding(name) => near_text(alloc, None, name),
         Detail::Elsewhere(space) => elsewhere_text(alloc, *space),
         Detail::ByPattern => String::from_str(alloc, ": a pattern binds it"),

@@ -1,2 +1,2 @@
 mod LinesInTurn
-mod Chosen
+pub mod Chosen

@@ -1,10 +1,10 @@
 -- The diagnostics of a run.
 use Rattle.std.specs.Prelude.{◌≡◌, ℕ, false, List, Some, map, string_bytes}
 use Rattle.hm_build_messages.specs.Explained.{IsExplained}
-use Rattle.hm_build_messages.specs.declared.options.Explain.{Explain}
+use Rattle.hm_build_messages.specs.declared.options.MessageOptions.{MessageOptions}
 use Rattle.hm_build_output.specs.JournalledRuns.{IsRun}
 use Rattle.hm_build_output.specs.declared.options.RunOptions.{RunOptions}
-use Rattle.hm_messages.specs.declared.heading.Paint.TheVariants.{Json}
+use Rattle.hm_messages.specs.declared.heading.MessageFormat.TheVariants.{Json}
 use Rattle.hm_run_sources.specs.declared.status.Status.{Status}
 use Rattle.hm_service_messages.specs.Lines.{AreTold}
 use Rattle.hm_service_messages.specs.declared.diagnostic.Told.{Told}
@@ -23,7 +23,7 @@ pub record IsRunTold (workers : ℕ) (numbers : List ℕ) (sources : List (List 
 pub record AreOptionsFor (numbers : List ℕ) (workers : ℕ) (options : RunOptions) : Type 0 where
   pub workers_are : options.options.workers ≡ workers
   pub no_journal : options.options.journal ≡ false
-  pub explain : Explain
-  pub is : options.explain ≡ Some explain
-  pub paint : explain.paint ≡ Json
-  pub names : map (λ n. n.items) explain.names.items ≡ names_of numbers
+  pub messages : MessageOptions
+  pub is : options.messages ≡ Some messages
+  pub format : messages.format ≡ Json
+  pub names : map (λ n. n.items) messages.names.items ≡ names_of numbers

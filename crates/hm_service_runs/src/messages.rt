@@ -7,10 +7,10 @@ ghost use Rattle.hm_build_reports.specs.FinishedBuilds.{IsFinished};
 ghost use Rattle.hm_store_shared.specs.Gathered.{records_in};
 ghost use Rattle.hm_service_runs.specs.Runs.{AreOptionsFor, IsRunTold};
 
-use hm_build_messages::Explain;
-use hm_build_output::{Options, RunOptions, finished_explained, refused_explained};
+use hm_build_messages::MessageOptions;
+use hm_build_output::{Options, RunOptions, finished_output, refused_output};
 use hm_build_stages::Finished;
-use hm_messages::Paint;
+use hm_messages::MessageFormat;
 use hm_run_sources::{RefusedSet, Trees};
 use hm_service_messages::{Told, told_in};
 use hm_service_places::{ServiceFault, names_of};
@@ -27,9 +27,9 @@ fn options_for(alloc: Global, numbers: &[usize], workers: usize) -> Result<RunOp
             journal: false,
             trees: Trees::Dropped,
         },
-        explain: Some(Explain {
+        messages: Some(MessageOptions {
             names,
-            paint: Paint::Json,
+            format: MessageFormat::Json,
         }),
         listed: None,
     })
@@ -48,8 +48,8 @@ pub fn refused_told(
     ensures { IfOk result (IsRunTold workers numbers.now (map (λ s. s.items) sources.now)) }
 {
     let options = options_for(alloc, numbers, workers)?;
-    let explained = refused_explained(alloc, sources, refused, &options)?;
-    let told = told_in(alloc, explained.messages.as_slice())?;
+    let output = refused_output(alloc, sources, refused, &options)?;
+    let told = told_in(alloc, output.messages.as_slice())?;
     Ok(told)
 }
 
@@ -67,7 +67,7 @@ pub fn finished_told(
 {
     let options = options_for(alloc, numbers, workers)?;
     let counts = finished.counts.as_slice();
-    let explained = finished_explained(alloc, &finished.store, counts, sources, &options)?;
-    let told = told_in(alloc, explained.messages.as_slice())?;
+    let output = finished_output(alloc, &finished.store, counts, sources, &options)?;
+    let told = told_in(alloc, output.messages.as_slice())?;
     Ok(told)
 }

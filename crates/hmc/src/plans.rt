@@ -3,7 +3,7 @@ ghost use Rattle.std.specs.Prelude.{All, IfOk};
 ghost use Rattle.hm_run_io.specs.Watching.{IsFresh};
 
 use crate::quiet::Output;
-use hm_build::{Explaining, Outputs, run_explained};
+use hm_build::{Outputs, RunOptions, run_with_messages};
 use hm_messages::count_text;
 use hm_run_io::{RunFault, Watched, read_all, write_text};
 use hm_run_sources::{Status, Trees, run_plan};
@@ -24,8 +24,11 @@ fn readers_of(alloc: Global, texts: &[Vec<u8>]) -> Result<Vec<Watched<&[u8]>>, A
 }
 
 /// Writes the last line of the messages of a plan without faults.
-fn end_messages(rt: &HostRuntime, wanted: &Explaining) -> Result<(), RunFault> {
-    let text = count_text(rt.alloc(), wanted.explain.paint, 0, 0)?;
+fn end_messages(rt: &HostRuntime, run_options: &RunOptions) -> Result<(), RunFault> {
+    let Some(messages) = &run_options.messages else {
+        return Ok(());
+    };
+    let text = count_text(rt.alloc(), messages.format, 0, 0)?;
     if !text.as_str().is_empty() {
         let _ = write_text(&mut Watched::new(rt.stderr()), text.as_bytes());
     }
@@ -39,7 +42,7 @@ pub(crate) fn plan_explained<T: Threads + Wait + Sync, R: Read>(
     threads: &T,
     readers: &mut [Watched<R>],
     output: Output,
-    wanted: Explaining,
+    run_options: RunOptions,
 ) -> Result<Status, RunFault>
     requires { All IsFresh readers.old }
 {
@@ -55,7 +58,7 @@ pub(crate) fn plan_explained<T: Threads + Wait + Sync, R: Read>(
         Trees::Left,
     )?;
     if status != Status::Refused {
-        end_messages(rt, &wanted)?;
+        end_messages(rt, &run_options)?;
         return Ok(status);
     }
     let mut refused = readers_of(alloc, texts.as_slice())?;
@@ -63,6 +66,12 @@ pub(crate) fn plan_explained<T: Threads + Wait + Sync, R: Read>(
         writer: Watched::new(Output::Nothing),
         errors: Watched::new(rt.stderr()),
     };
-    let _ = run_explained(threads, alloc, refused.as_mut_slice(), &mut outputs, wanted);
+    let _ = run_with_messages(
+        threads,
+        alloc,
+        refused.as_mut_slice(),
+        &mut outputs,
+        run_options,
+    );
     Ok(status)
 }

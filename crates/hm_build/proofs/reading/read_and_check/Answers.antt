@@ -1,34 +1,19 @@
-use Rattle.std.proofs.Common.{rules, ◌≡◌, ◌<◌, ◌≤◌, IfSome, Err, inr, refl, map, string_bytes, subst}
-use Rattle.hm_build_messages.specs.Explained.{IsExplained, StatesExhaustion}
-use Rattle.hm_build_listing.specs.Listed.{IsListed}
-use Rattle.hm_build_output.specs.JournalledRuns.{IsRun}
-use Rattle.hm_build_output.proofs.HeldRuns.{build_held}
+use Rattle.std.proofs.Common.{rules, ◌≡◌, ◌<◌, ◌≤◌, Err, inr, refl, string_bytes, subst}
+use Rattle.hm_build_output.specs.Outputs.{IsExhaustionFor, IsOutput}
+use Rattle.hm_build_output.proofs.HeldRuns.{output_held}
 use Rattle.hm_build.proofs.RunFaults.{only_read_faults, some_more}
 use Rattle.hm_run_io.proofs.Runs.{reads_before, reads_done, reads_passed_on}
 use Rattle.hm_build.proofs.reading.read_and_check.Goals as goal
 
 pub returns-in-Ok-clause-ok : goal.returns-in-Ok-clause-ok
 returns-in-Ok-clause-ok g c sources told =
-    let a = c.in-Ok.explained.answer in
-    let options = c.args.run_options.options in
-    build_held options.workers options.journal sources a.status (string_bytes a.text) (subst (λ l. IsRun options.workers options.journal l a.status (string_bytes a.text)) (c.in_ok-sources.ensures.bytes sources told) c.in-Ok.ensures.ok)
-
-pub returns-in-Ok-clause-told : goal.returns-in-Ok-clause-told
-returns-in-Ok-clause-told g c sources told =
-    let a = c.in-Ok.explained in
-    subst (λ l. IfSome c.args.run_options.explain (λ e. IsExplained e.paint (map (λ s. s.items) e.names.items) l a.answer.status (string_bytes a.answer.text) a.messages.items)) (c.in_ok-sources.ensures.bytes sources told)
-    c.in-Ok.ensures.told
-
-pub returns-in-Ok-clause-listed : goal.returns-in-Ok-clause-listed
-returns-in-Ok-clause-listed g c sources told =
-    let a = c.in-Ok.explained in
-    subst (λ l. IfSome c.args.run_options.listed (λ names. IsListed (map string_bytes names.items) l a.answer.status (string_bytes a.answer.text) (string_bytes a.listing))) (c.in_ok-sources.ensures.bytes sources told)
-    c.in-Ok.ensures.listed
+    let o = c.in-Ok.output in
+    let options = c.args.run_options in
+    output_held options sources o.status (string_bytes o.text) o.messages.items (subst (λ l. IsOutput options l l o.status (string_bytes o.text) o.messages.items) (c.in_ok-sources.ensures.bytes sources told) c.in-Ok.ensures.ok)
 
 pub returns-in-Err-clause-exhausted : goal.returns-in-Err-clause-exhausted
 returns-in-Err-clause-exhausted g c =
-    some_more c.in-Err.unanswered.message (λ m h sources told.
-    subst (λ l. IfSome c.args.run_options.explain (λ e. StatesExhaustion e.paint (map (λ s. s.items) e.names.items) l m.items)) (c.in_ok-sources.ensures.bytes sources told) h) c.in-Err.ensures.exhausted
+    some_more c.in-Err.none.message (λ m h sources told. subst (λ l. IsExhaustionFor c.args.run_options.messages l m.items) (c.in_ok-sources.ensures.bytes sources told) h) c.in-Err.ensures.exhausted
 
 pub returns-in_err-sources-clause-reads : goal.returns-in_err-sources-clause-reads
 returns-in_err-sources-clause-reads g c =
@@ -38,11 +23,11 @@ returns-in_err-sources-clause-reads g c =
 
 pub returns-in-Err-clause-reads : goal.returns-in-Err-clause-reads
 returns-in-Err-clause-reads g c =
-    let e = c.in-Err.unanswered.fault in
+    let e = c.in-Err.none.fault in
     reads_before (λ d. g.R.Read.remaining d) c.args.readers.now c.read_all.new.readers c.in_ok-sources.sources e (Err e) refl (inr c.in-Err.ensures.err) c.in_ok-sources.ensures.reads
 
 pub returns-in-Ok-clause-reads : goal.returns-in-Ok-clause-reads
-returns-in-Ok-clause-reads g c = reads_done (λ d. g.R.Read.remaining d) c.args.readers.now c.read_all.new.readers c.in_ok-sources.sources c.in-Ok.explained c.in_ok-sources.ensures.reads
+returns-in-Ok-clause-reads g c = reads_done (λ d. g.R.Read.remaining d) c.args.readers.now c.read_all.new.readers c.in_ok-sources.sources c.in-Ok.output c.in_ok-sources.ensures.reads
 
 pub returns-in_err-sources-clause-workers : goal.returns-in_err-sources-clause-workers
 returns-in_err-sources-clause-workers g c =
@@ -53,18 +38,5 @@ returns-in_err-sources-clause-workers g c =
 
 pub returns-in-Ok-clause-given : goal.returns-in-Ok-clause-given
 returns-in-Ok-clause-given g c =
-    let a = c.in-Ok.explained.answer in
-    let options = c.args.run_options.options in
-    subst (λ l. IsRun options.workers options.journal l a.status (string_bytes a.text)) c.in_ok-sources.ensures.given c.in-Ok.ensures.ok
-
-pub returns-in-Ok-clause-given_told : goal.returns-in-Ok-clause-given_told
-returns-in-Ok-clause-given_told g c =
-    let a = c.in-Ok.explained in
-    subst (λ l. IfSome c.args.run_options.explain (λ e. IsExplained e.paint (map (λ s. s.items) e.names.items) l a.answer.status (string_bytes a.answer.text) a.messages.items)) c.in_ok-sources.ensures.given
-    c.in-Ok.ensures.told
-
-pub returns-in-Ok-clause-given_listed : goal.returns-in-Ok-clause-given_listed
-returns-in-Ok-clause-given_listed g c =
-    let a = c.in-Ok.explained in
-    subst (λ l. IfSome c.args.run_options.listed (λ names. IsListed (map string_bytes names.items) l a.answer.status (string_bytes a.answer.text) (string_bytes a.listing))) c.in_ok-sources.ensures.given
-    c.in-Ok.ensures.listed
+    let o = c.in-Ok.output in
+    subst (λ l. IsOutput c.args.run_options l l o.status (string_bytes o.text) o.messages.items) c.in_ok-sources.ensures.given c.in-Ok.ensures.ok

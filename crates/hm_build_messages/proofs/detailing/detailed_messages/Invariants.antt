@@ -1,4 +1,4 @@
-use Rattle.std.proofs.Common.{List, take}
+use Rattle.std.proofs.Common.{◌≡◌, List, map, take}
 use Rattle.hm_messages_details.specs.Details.{IsKnown}
 use Rattle.hm_types.specs.Interfaces.{Exports as Interface}
 use Rattle.hm_names.specs.Bindings.{IsScopeOf}
@@ -8,5 +8,5 @@ use Rattle.hm_build_messages.specs.Explanations.{IsDetailed}
 use Rattle.hm_build_messages.proofs.detailing.detailed_messages.Given as goal
 
 abbrev pub invariant-loop-index : goal.invariant-loop-index
-invariant-loop-index l = (fs : List Interface) → IsScopeOf l.site.program.now fs l.site.scope.now → AreTablesOf l.site.program.now fs l.site.tables.now
-    → AreEach (IsDetailed l.paint l.page.file.now l.page.lines (IsKnown l.site.program.now fs)) (take l.index l.faults) l.text.items
+invariant-loop-index l = (fs : List Interface) → fs ≡ map (λ f. f.now) l.site.interfaces.now → IsScopeOf l.site.program.now fs l.site.scope.now → AreTablesOf l.site.program.now fs l.site.tables.now
+    → AreEach (IsDetailed l.format l.page.file.now l.page.lines (IsKnown l.site.program.now fs)) (take l.index l.faults) l.text.items

@@ -17,21 +17,21 @@ use Rattle.hm_build_messages.proofs.detailing.faulty_messages.Goals as goal
 -- nothing is known of the faults
 pub returns-in_default : goal.returns-in_default
 returns-in_default c =
-    let told = c.args.told.now in
+    let told = c.args.view.now in
     let p = module_set told.modules.now told.plan.now in
     let status = statuses_of told.settled.now in
     let faulty = c.args.faulty in
     let before = c.args.allowance.now.is_limit_stated in
     let pages = told.pages.now.items.items in
     let page : Page = c.index-page.result.now in
-    at_page told.pages.now.paint pages faulty.source page p status faulty.number faulty.faults.now before before c.in_ok-plain_messages.field-0.items c.requires.source (search rules)
-    (quiet_turn (IsDetailed told.pages.now.paint page.file.now page.lines (λ f known. known ≡ nothing)) (IsFaultStated told.pages.now.paint page.file.now page.lines p status faulty.number)
-    (λ f b t h. inl (refl, record { known = h.known; so = inl h.so; told = h.told })) faulty.faults.now before c.in_ok-plain_messages.field-0.items c.in_ok-plain_messages.ensures)
+    at_page told.pages.now.format pages faulty.source page p status faulty.number faulty.faults.now before before c.in_ok-plain_messages.field-0.items c.requires.source (search rules)
+    (quiet_turn (IsDetailed told.pages.now.format page.file.now page.lines (λ f known. known ≡ nothing)) (IsFaultStated told.pages.now.format page.file.now page.lines p status faulty.number)
+    (λ f b t h. inl (refl, record { known = h.known; so = inl h.so; stated = h.stated })) faulty.faults.now before c.in_ok-plain_messages.field-0.items c.in_ok-plain_messages.ensures)
 
 -- the scope and the trees of the module tell of names and numbers
 pub returns-then-have_details : goal.returns-then-have_details
 returns-then-have_details c =
-    let told = c.args.told.now in
+    let told = c.args.view.now in
     let p = module_set told.modules.now told.plan.now in
     let status = statuses_of told.settled.now in
     let faulty = c.args.faulty in
@@ -44,17 +44,17 @@ returns-then-have_details c =
     subst (λ o. IfSome o (λ interfaces. ArePublished (settlement told.store.now) c.imports.result.now (map arc_value interfaces.items))) c.in-Some.is c.in_ok-imports.ensures in
     let published : ArePublished status (imports_of p number) fs =
     subst (λ s. ArePublished s (imports_of p number) fs) (sym c.requires.settled) (subst (λ row. ArePublished (settlement told.store.now) row fs) c.imports.ensures have) in
-    let each : AreEach (IsDetailed told.pages.now.paint page.file.now page.lines (IsKnown (module_at p number) (prelude_interface ∷ fs))) faulty.faults.now c.in_ok-searched_messages.field-0.items =
-    subst (λ l. AreEach (IsDetailed told.pages.now.paint page.file.now page.lines (IsKnown (module_at p number) (prelude_interface ∷ map arc_value l))) faulty.faults.now c.in_ok-searched_messages.field-0.items)
+    let each : AreEach (IsDetailed told.pages.now.format page.file.now page.lines (IsKnown (module_at p number) (prelude_interface ∷ fs))) faulty.faults.now c.in_ok-searched_messages.field-0.items =
+    subst (λ l. AreEach (IsDetailed told.pages.now.format page.file.now page.lines (IsKnown (module_at p number) (prelude_interface ∷ map arc_value l))) faulty.faults.now c.in_ok-searched_messages.field-0.items)
     c.as_slice.ensures.value c.in_ok-searched_messages.ensures in
-    at_page told.pages.now.paint pages faulty.source page p status number faulty.faults.now before before c.in_ok-searched_messages.field-0.items c.requires.source (search rules)
-    (quiet_turn (IsDetailed told.pages.now.paint page.file.now page.lines (IsKnown (module_at p number) (prelude_interface ∷ fs))) (IsFaultStated told.pages.now.paint page.file.now page.lines p status number)
-    (λ f b t h. inl (refl, record { known = h.known; so = inr (fs, published, h.so); told = h.told })) faulty.faults.now before c.in_ok-searched_messages.field-0.items each)
+    at_page told.pages.now.format pages faulty.source page p status number faulty.faults.now before before c.in_ok-searched_messages.field-0.items c.requires.source (search rules)
+    (quiet_turn (IsDetailed told.pages.now.format page.file.now page.lines (IsKnown (module_at p number) (prelude_interface ∷ fs))) (IsFaultStated told.pages.now.format page.file.now page.lines p status number)
+    (λ f b t h. inl (refl, record { known = h.known; so = inr (fs, published, h.so); stated = h.stated })) faulty.faults.now before c.in_ok-searched_messages.field-0.items each)
 
 -- the checker tells of type faults
 pub returns : goal.returns
 returns c =
-    let told = c.args.told.now in
+    let told = c.args.view.now in
     let p = module_set told.modules.now told.plan.now in
     let status = statuses_of told.settled.now in
     let faulty = c.args.faulty in
@@ -65,12 +65,12 @@ returns c =
     let page : Page = c.index-page.result.now in
     let fs = map arc_value c.in-Some.imports.items in
     let name : List ℕ = c.as_str.result.now in
-    let named : name ≡ (module_at p number).header.name.text = search rules ∙ sym (name_by_place told.modules.now told.plan.now number c.index-told-faulty.result c.requires.number c.index-told-faulty.is) in
+    let named : name ≡ (module_at p number).header.name.text = search rules ∙ sym (name_by_place told.modules.now told.plan.now number c.index-view-faulty.result c.requires.number c.index-view-faulty.is) in
     let have : ArePublished (settlement told.store.now) c.imports.result.now fs =
     subst (λ o. IfSome o (λ interfaces. ArePublished (settlement told.store.now) c.imports.result.now (map arc_value interfaces.items))) c.in-Some.is c.in_ok-imports.ensures in
     let published : ArePublished status (imports_of p number) fs =
     subst (λ s. ArePublished s (imports_of p number) fs) (sym c.requires.settled) (subst (λ row. ArePublished (settlement told.store.now) row fs) c.imports.ensures have) in
-    at_page told.pages.now.paint pages faulty.source page p status number faulty.faults.now before after c.in_ok-noted_messages.field-0.items c.requires.source (search rules)
-    (turn_so (IsNoted told.pages.now.paint page.file.now page.lines name fs) (IsFaultStated told.pages.now.paint page.file.now page.lines p status number)
-    (λ f b d t h. inr (fs, published, subst (λ n. IsNoted told.pages.now.paint page.file.now page.lines n fs f b d t) named h)) faulty.faults.now before after c.in_ok-noted_messages.field-0.items
-    (subst (λ l. AreInTurn (IsNoted told.pages.now.paint page.file.now page.lines name (map arc_value l)) faulty.faults.now before after c.in_ok-noted_messages.field-0.items) c.as_slice-2.ensures.value c.in_ok-noted_messages.ensures))
+    at_page told.pages.now.format pages faulty.source page p status number faulty.faults.now before after c.in_ok-noted_messages.field-0.items c.requires.source (search rules)
+    (turn_so (IsNoted told.pages.now.format page.file.now page.lines name fs) (IsFaultStated told.pages.now.format page.file.now page.lines p status number)
+    (λ f b d t h. inr (fs, published, subst (λ n. IsNoted told.pages.now.format page.file.now page.lines n fs f b d t) named h)) faulty.faults.now before after c.in_ok-noted_messages.field-0.items
+    (subst (λ l. AreInTurn (IsNoted told.pages.now.format page.file.now page.lines name (map arc_value l)) faulty.faults.now before after c.in_ok-noted_messages.field-0.items) c.as_slice-2.ensures.value c.in_ok-noted_messages.ensures))

@@ -13,7 +13,7 @@ loop-fault-preserved c =
     let item : Fault = c.fault-item.result in
     let is : item ≡ get_or faults i item = search rules in
     let message = c.in_ok-message.message.items in
-    let told : IsDetailed c.args.paint page.file.now page.lines (λ f known. known ≡ nothing) item message = record { known = nothing; so = refl; told = c.in_ok-message.ensures } in
+    let told : IsDetailed c.args.format page.file.now page.lines (λ f known. known ≡ nothing) item message = record { known = nothing; so = refl; stated = c.in_ok-message.ensures } in
     let pushed : c.extend_from_slice.new.self.items ≡ c.loop-fault.text.items ++ message = search rules in
-    taken_more (IsDetailed c.args.paint page.file.now page.lines (λ f known. known ≡ nothing)) faults i item c.loop-fault.text.items c.extend_from_slice.new.self.items message (search rules) c.loop-fault.invariant
-    (subst (λ (f : Fault). IsDetailed c.args.paint page.file.now page.lines (λ g known. known ≡ nothing) f message) is told) pushed
+    taken_more (IsDetailed c.args.format page.file.now page.lines (λ f known. known ≡ nothing)) faults i item c.loop-fault.text.items c.extend_from_slice.new.self.items message (search rules) c.loop-fault.invariant
+    (subst (λ (f : Fault). IsDetailed c.args.format page.file.now page.lines (λ g known. known ≡ nothing) f message) is told) pushed

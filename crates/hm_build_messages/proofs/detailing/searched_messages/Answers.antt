@@ -16,11 +16,11 @@ use Rattle.hm_build_messages.proofs.detailing.searched_messages.Goals as goal
 -- interfaces of other imports: nothing is known
 pub returns-then-not-branch : goal.returns-then-not-branch
 returns-then-not-branch c =
-    let told = c.args.told.now in
+    let told = c.args.view.now in
     let page = c.args.page.now in
     let known = IsKnown (module_at (module_set told.modules.now told.plan.now) c.args.faulty.number) (prelude_interface ∷ map arc_value c.args.imports.now) in
-    each_so (IsDetailed told.pages.now.paint page.file.now page.lines (λ f known. known ≡ nothing)) (IsDetailed told.pages.now.paint page.file.now page.lines known)
-    (λ f t h. record { known = h.known; so = subst (λ k. known f k) (sym h.so) tt; told = h.told }) c.args.faulty.faults.now c.in_ok-plain_messages.field-0.items c.in_ok-plain_messages.ensures
+    each_so (IsDetailed told.pages.now.format page.file.now page.lines (λ f known. known ≡ nothing)) (IsDetailed told.pages.now.format page.file.now page.lines known)
+    (λ f t h. record { known = h.known; so = subst (λ k. known f k) (sym h.so) tt; stated = h.stated }) c.args.faulty.faults.now c.in_ok-plain_messages.field-0.items c.in_ok-plain_messages.ensures
 
 pub scope_of-requires : goal.scope_of-requires
 scope_of-requires c =
@@ -32,7 +32,7 @@ scoped_messages-requires c =
 
 pub returns : goal.returns
 returns c =
-    let told = c.args.told.now in
+    let told = c.args.view.now in
     let p = module_set told.modules.now told.plan.now in
     let faulty = c.args.faulty in
     let page = c.args.page.now in
@@ -40,8 +40,8 @@ returns c =
     let text = c.in_ok-scoped_messages.field-0.items in
     let first : c.deref-prelude.result.now ≡ prelude_interface = c.deref-prelude.ensures ∙ c.interface.ensures in
     let program : c.deref-module.result.now ≡ module_at p faulty.number =
-    c.deref-module.ensures ∙ (sym (get_or-map arc_value told.modules.now faulty.number c.index-told-faulty.result no_module c.requires)) in
+    c.deref-module.ensures ∙ (sym (get_or-map arc_value told.modules.now faulty.number c.index-view-faulty.result no_module c.requires)) in
     let list : map (λ f. f.now) c.as_slice.result.now ≡ prelude_interface ∷ fs =
     ap (map (λ f. f.now)) c.as_slice.ensures.value ∙ (c.in_ok-interfaces.ensures ∙ ap (λ f. f ∷ fs) first) in
-    subst (λ m. AreEach (IsDetailed told.pages.now.paint page.file.now page.lines (IsKnown m (prelude_interface ∷ fs))) faulty.faults.now text) program
-    (subst (λ l. AreEach (IsDetailed told.pages.now.paint page.file.now page.lines (IsKnown c.deref-module.result.now l)) faulty.faults.now text) list c.in_ok-scoped_messages.ensures)
+    subst (λ m. AreEach (IsDetailed told.pages.now.format page.file.now page.lines (IsKnown m (prelude_interface ∷ fs))) faulty.faults.now text) program
+    (subst (λ l. AreEach (IsDetailed told.pages.now.format page.file.now page.lines (IsKnown c.deref-module.result.now l)) faulty.faults.now text) list c.in_ok-scoped_messages.ensures)

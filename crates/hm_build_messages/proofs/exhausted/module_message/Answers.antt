@@ -4,7 +4,7 @@ use Rattle.hm_lex.specs.declared.token.Place.{Place}
 use Rattle.hm_messages.specs.Messages.{IsMessage}
 use Rattle.hm_messages.specs.Pages.{AreFilesOf, files_in}
 use Rattle.hm_messages.specs.Subjects.{exhausted}
-use Rattle.hm_messages.specs.declared.heading.Paint.{Paint}
+use Rattle.hm_messages.specs.declared.heading.MessageFormat.{MessageFormat}
 use Rattle.hm_messages.specs.declared.pages.Page.{Page}
 use Rattle.hm_messages.proofs.AtPage.{file_is, text_is}
 use Rattle.hm_build_messages.proofs.exhausted.module_message.Goals as goal
@@ -25,7 +25,7 @@ returns c =
     let name : List ℕ = c.as_str.result.now in
     let place : Place = c.name.inside.place in
     let text : List ℕ = c.in_ok-message.field-0.items in
-    let told : IsMessage c.in_ok-pages.pages.paint page.file.now page.lines place (exhausted name) text = c.in_ok-message.ensures in
+    let told : IsMessage c.in_ok-pages.pages.format page.file.now page.lines place (exhausted name) text = c.in_ok-message.ensures in
     record {
       modules = of.modules;
       read = of.read;
@@ -38,7 +38,7 @@ returns c =
       name = name;
       called = λ d. c.as_str.ensures ∙ ap (λ n. n.text) (of.named d);
       place = place;
-      told = subst (λ (p : Paint). IsMessage p (get_or (files_in pages) source []) (get_or sources source []) place (exhausted name) text) c.in_ok-pages.ensures.paint
-          (subst (λ (s : List ℕ). IsMessage c.in_ok-pages.pages.paint (get_or (files_in pages) source []) s place (exhausted name) text) (text_is pages source page inside is ∙ ap (λ l. get_or l source []) c.in_ok-pages.ensures.texts)
-          (subst (λ (f : List ℕ). IsMessage c.in_ok-pages.pages.paint f page.lines place (exhausted name) text) (file_is pages source page inside is) told));
+      stated = subst (λ (p : MessageFormat). IsMessage p (get_or (files_in pages) source []) (get_or sources source []) place (exhausted name) text) c.in_ok-pages.ensures.format
+          (subst (λ (s : List ℕ). IsMessage c.in_ok-pages.pages.format (get_or (files_in pages) source []) s place (exhausted name) text) (text_is pages source page inside is ∙ ap (λ l. get_or l source []) c.in_ok-pages.ensures.texts)
+          (subst (λ (f : List ℕ). IsMessage c.in_ok-pages.pages.format f page.lines place (exhausted name) text) (file_is pages source page inside is) told));
     }

@@ -8,4 +8,4 @@ loop-blame-preserved c =
     let page = c.args.page.now in
     let message = c.in_ok-message.message.items in
     let pushed : c.extend_from_slice.new.self.items ≡ c.loop-blame.text.items ++ message = search rules in
-    viewed_more blamed_of (IsBlameMessage c.args.pages.now.paint page.file.now page.lines) c.args.blames.now c.loop-blame.blame-index _ c.loop-blame.text.items c.extend_from_slice.new.self.items message (search rules) c.loop-blame.invariant c.in_ok-message.ensures pushed
+    viewed_more blamed_of (IsBlameMessage c.args.pages.now.format page.file.now page.lines) c.args.blames.now c.loop-blame.blame-index _ c.loop-blame.text.items c.extend_from_slice.new.self.items message (search rules) c.loop-blame.invariant c.in_ok-message.ensures pushed

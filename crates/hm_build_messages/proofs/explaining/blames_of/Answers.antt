@@ -50,7 +50,7 @@ loop-number-preserved c =
     let read : c.index-settled-number.result ≡ get_or c.args.settled.now j c.index-settled-number.result = search rules in
     let way : status_of c.index-settled-number.result ≡ status j = ap status_of (read ∙ same_read c.args.settled.now j c.index-settled-number.result Skipped inside) in
     let told = blamed_here (map arc_value modules) status row imports one item j name _ (c.import_of-index.result, c.import_of-index.ensures.within, is) called (search rules)
-    (c.loop-number.number-index, c.loop-number-test.true, search rules) named c.blame_of.ensures.name c.blame_of.ensures.place (subst (λ w. IfSome one (λ b. IsStatedBy w name (blamed_of b).subject)) way c.blame_of.ensures.told) in
+    (c.loop-number.number-index, c.loop-number-test.true, search rules) named c.blame_of.ensures.name c.blame_of.ensures.place (subst (λ w. IfSome one (λ b. IsStatedBy w name (blamed_of b).subject)) way c.blame_of.ensures.stated) in
     record {
       names = more ∙ (ap₂ (λ (l s : List (List ℕ)). l ++ s) c.loop-number.invariant.names (ap₂ blamed way (sym named)) ∙ sym (row_more (map arc_value modules) status row c.loop-number.number-index 0 c.loop-number-test.true));
       right = subst (All (λ b. IsBlamedBy (map arc_value modules) status row imports (blamed_of b))) (sym c.in_ok-add_blame.ensures)

@@ -6,5 +6,5 @@ use Rattle.hm_build_messages.proofs.explaining.error_messages.Given as goal
 
 abbrev pub invariant-loop-row : goal.invariant-loop-row
 invariant-loop-row l =
-    AreInTurn (λ r before after text. AreErrorsStated l.told.pages.now.paint (files_in l.told.pages.now.items.items) (texts_in l.told.pages.now.items.items) (module_set l.told.modules.now l.told.plan.now) (statuses_of l.told.settled.now) r.number before after text)
+    AreInTurn (λ r before after text. AreErrorsStated l.view.pages.now.format (files_in l.view.pages.now.items.items) (texts_in l.view.pages.now.items.items) (module_set l.view.modules.now l.view.plan.now) (statuses_of l.view.settled.now) r.number before after text)
     (take l.row-index l.rows) false l.allowance.is_limit_stated l.text.items

@@ -13,9 +13,9 @@ skipped_messages-requires-clause-number c = c.requires.rows c.loop-row.row-index
 
 pub loop-row-preserved : goal.loop-row-preserved
 loop-row-preserved c =
-    let told = c.args.told.now in
+    let told = c.args.view.now in
     let message = c.in_ok-notes.notes.items in
     let pushed : c.extend_from_slice.new.self.items ≡ c.loop-row.text.items ++ message = search rules in
-    taken_more (λ r m. IsSkippedStated told.pages.now.paint (files_in told.pages.now.items.items) (texts_in told.pages.now.items.items) (module_set told.modules.now told.plan.now) (statuses_of told.settled.now) r.number m)
+    taken_more (λ r m. IsSkippedStated told.pages.now.format (files_in told.pages.now.items.items) (texts_in told.pages.now.items.items) (module_set told.modules.now told.plan.now) (statuses_of told.settled.now) r.number m)
     c.args.rows.now c.loop-row.row-index _ c.loop-row.text.items c.extend_from_slice.new.self.items message (search rules) c.loop-row.invariant
     (c.source_of-source.result, c.source_of-source.ensures.spelled, c.in_ok-notes.ensures) pushed

@@ -7,5 +7,5 @@ use Rattle.hm_build_messages.proofs.explaining.skipped_notes.Given as goal
 
 abbrev pub invariant-loop-row : goal.invariant-loop-row
 invariant-loop-row l =
-    AreEach (λ r text. IsSkippedStated l.told.pages.now.paint (files_in l.told.pages.now.items.items) (texts_in l.told.pages.now.items.items) (module_set l.told.modules.now l.told.plan.now) (statuses_of l.told.settled.now) r.number text)
+    AreEach (λ r text. IsSkippedStated l.view.pages.now.format (files_in l.view.pages.now.items.items) (texts_in l.view.pages.now.items.items) (module_set l.view.modules.now l.view.plan.now) (statuses_of l.view.settled.now) r.number text)
     (take l.row-index l.rows) l.text.items

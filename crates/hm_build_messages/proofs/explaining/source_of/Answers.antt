@@ -10,7 +10,7 @@ returns-clause-spelled c =
 
 pub returns-clause-within : goal.returns-clause-within
 returns-clause-within c =
-    let told = c.args.told.now in
+    let told = c.args.view.now in
     let h = c.requires.origins in
     let number : ℕ = c.args.number in
     subst (λ n. get_or told.origins.now number 0 < n) (length-map told.pages.now.items.items (λ p. p.lines)) (h.each number 0 (subst (λ n. number < n) (sym h.as_many) c.requires.number)).inside

@@ -8,13 +8,13 @@ use Rattle.hm_build_messages.proofs.Turns.{same_limit}
 use Rattle.hm_build_messages.proofs.faulty.fault_text.Goals as goal
 
 -- an earlier note says that the limit is reached
-pub returns-then-allowance-clause-told : goal.returns-then-allowance-clause-told
-returns-then-allowance-clause-told c =
-    let paint = c.args.«module».now.paint in
+pub returns-then-allowance-clause-stated : goal.returns-then-allowance-clause-stated
+returns-then-allowance-clause-stated c =
+    let format = c.args.«module».now.format in
     let page = c.args.«module».now.page.now in
     let fault = c.args.fault.now in
     let message = c.in_ok-text.text.items in
-    let says : IsFaultMessage paint page.file.now page.lines fault nothing message = search rules in
+    let says : IsFaultMessage format page.file.now page.lines fault nothing message = search rules in
     record {
       message = message;
       notes = [];
@@ -22,14 +22,14 @@ returns-then-allowance-clause-told c =
       noted = inl refl;
       silent = λ told. refl;
       last = [];
-      limited = same_limit paint page.file.now page.lines fault c.args.allowance.now.is_limit_stated;
+      limited = same_limit format page.file.now page.lines fault c.args.allowance.now.is_limit_stated;
       whole = sym (append-nil message) ∙ sym (append-nil (message ++ []));
     }
 
 -- something is left for the run
-pub returns-then-not-is_used_up-clause-told : goal.returns-then-not-is_used_up-clause-told
-returns-then-not-is_used_up-clause-told c =
-    let paint = c.args.«module».now.paint in
+pub returns-then-not-is_used_up-clause-stated : goal.returns-then-not-is_used_up-clause-stated
+returns-then-not-is_used_up-clause-stated c =
+    let format = c.args.«module».now.format in
     let page = c.args.«module».now.page.now in
     let fault = c.args.fault.now in
     let before = c.args.allowance.now.is_limit_stated in
@@ -37,8 +37,8 @@ returns-then-not-is_used_up-clause-told c =
     let notes = c.in_ok-notes.notes.items in
     let text = c.extend_from_slice.new.self.items in
     let unstated : before ≡ false = search rules in
-    let says : IsFaultMessage paint page.file.now page.lines fault nothing message = search rules in
-    let noted : (notes ≡ []) ⊎ AreNotes paint page.file.now page.lines c.args.«module».now.question.now.name.now (map arc_value c.args.«module».now.question.now.imports.now) fault notes = search rules in
+    let says : IsFaultMessage format page.file.now page.lines fault nothing message = search rules in
+    let noted : (notes ≡ []) ⊎ AreNotes format page.file.now page.lines c.args.«module».now.question.now.name.now (map arc_value c.args.«module».now.question.now.imports.now) fault notes = search rules in
     let whole : text ≡ message ++ notes = search rules in
     record {
       message = message;
@@ -47,6 +47,6 @@ returns-then-not-is_used_up-clause-told c =
       noted = noted;
       silent = λ told. absurd (false≢true (sym unstated ∙ told));
       last = [];
-      limited = same_limit paint page.file.now page.lines fault before;
+      limited = same_limit format page.file.now page.lines fault before;
       whole = whole ∙ sym (append-nil (message ++ notes));
     }

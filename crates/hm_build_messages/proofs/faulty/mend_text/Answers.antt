@@ -14,11 +14,11 @@ returns c =
     let changes : List Changed = map changed_of c.in_ok-changes.changes.items in
     let text = c.in_ok-part_message.field-0.items in
     let subject : Subject = subject_of c.topic_of.result in
-    let told : IsPartMessage c.args.«module».now.paint page.file.now page.lines (first_part mend) (second_part mend) subject changes text = search rules in
+    let told : IsPartMessage c.args.«module».now.format page.file.now page.lines (first_part mend) (second_part mend) subject changes text = search rules in
     record {
       changes = changes;
       edits = subst (λ (s : List ℕ). HasChanges s mend changes) c.requires.same c.in_ok-changes.ensures;
       subject = subject;
       means = subst (λ (s : List ℕ). IsSubjectOf s c.args.definition.now mend c.args.other subject) c.requires.same (c.topic_of.ensures c.args.«module».now.question.now.source.now c.counts_of-counts.ensures);
-      told = told;
+      stated = told;
     }

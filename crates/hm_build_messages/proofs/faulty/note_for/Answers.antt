@@ -17,17 +17,17 @@ returns c =
     let mend = c.in-Some.mend in
     let placed = c.in-Some-reader_place.ensures.some in
     let text = c.in_ok-text.text.items in
-    let told : IsStatedOf c.args.«module».now.paint page.file.now page.lines name imports c.as_str.result.now mend (reader_place c.other_of.result placed.0) text
-    = subst (λ (p : Place). IsStatedOf c.args.«module».now.paint page.file.now page.lines name imports c.as_str.result.now mend p text) placed.2 c.in_ok-text.ensures in
-    let named : IsStatedOf c.args.«module».now.paint page.file.now page.lines name imports fault.name mend (reader_place c.other_of.result placed.0) text
-    = subst (λ (d : List ℕ). IsStatedOf c.args.«module».now.paint page.file.now page.lines name imports d mend (reader_place c.other_of.result placed.0) text) c.as_str.ensures told in
+    let told : IsStatedOf c.args.«module».now.format page.file.now page.lines name imports c.as_str.result.now mend (reader_place c.other_of.result placed.0) text
+    = subst (λ (p : Place). IsStatedOf c.args.«module».now.format page.file.now page.lines name imports c.as_str.result.now mend p text) placed.2 c.in_ok-text.ensures in
+    let named : IsStatedOf c.args.«module».now.format page.file.now page.lines name imports fault.name mend (reader_place c.other_of.result placed.0) text
+    = subst (λ (d : List ℕ). IsStatedOf c.args.«module».now.format page.file.now page.lines name imports d mend (reader_place c.other_of.result placed.0) text) c.as_str.ensures told in
     inr (record {
       untyped = c.in-Some.ensures.0;
       mend = mend;
       mended = subst (λ (s : List ℕ). IsMend s name imports fault.name mend) c.requires c.in-Some.ensures.1;
       columns = placed.0;
       columns_at = subst (λ (p : Place). AreColumnsAt page.lines p placed.0) c.other_of.ensures placed.1;
-      told = subst (λ (p : Place). IsStatedOf c.args.«module».now.paint page.file.now page.lines name imports fault.name mend (reader_place p placed.0) text) c.other_of.ensures named;
+      stated = subst (λ (p : Place). IsStatedOf c.args.«module».now.format page.file.now page.lines name imports fault.name mend (reader_place p placed.0) text) c.other_of.ensures named;
     })
 
 pub note_text-requires-clause-same : goal.note_text-requires-clause-same

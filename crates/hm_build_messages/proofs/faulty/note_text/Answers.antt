@@ -14,7 +14,7 @@ returns-in_ok-part_message-in-Some c =
     let expected = string_bytes types.expected in
     let actual = string_bytes types.actual in
     let are : ArePartTypes page.lines c.args.«module».now.question.now.name.now (map arc_value c.args.«module».now.question.now.imports.now) c.args.definition.now mend expected actual types.infinite = search rules in
-    let says : IsPartMessage c.args.«module».now.paint page.file.now page.lines (first_part mend) None (mistyped c.args.definition.now c.args.other expected actual types.infinite) [] c.in_ok-part_message-in-Some.field-0.items = search rules in
+    let says : IsPartMessage c.args.«module».now.format page.file.now page.lines (first_part mend) None (mistyped c.args.definition.now c.args.other expected actual types.infinite) [] c.in_ok-part_message-in-Some.field-0.items = search rules in
     by_types expected actual types.infinite are says
 
 pub returns-in_ok-mend_text-in-None : goal.returns-in_ok-mend_text-in-None

@@ -7,7 +7,7 @@ use Rattle.hm_build_messages.proofs.faulty.noted_messages.Goals as goal
 
 pub loop-fault-preserved : goal.loop-fault-preserved
 loop-fault-preserved c =
-    let told = IsNoted c.args.«module».now.paint c.args.«module».now.page.now.file.now c.args.«module».now.page.now.lines c.args.«module».now.question.now.name.now (map arc_value c.args.«module».now.question.now.imports.now) in
+    let told = IsNoted c.args.«module».now.format c.args.«module».now.page.now.file.now c.args.«module».now.page.now.lines c.args.«module».now.question.now.name.now (map arc_value c.args.«module».now.question.now.imports.now) in
     let faults = c.args.«module».now.faults.now in
     let i = c.loop-fault.fault-index in
     let item : Fault = c.fault-item.result in
@@ -18,4 +18,4 @@ loop-fault-preserved c =
     let after = c.fault_text.new.allowance.is_limit_stated in
     let pushed : c.extend_from_slice.new.self.items ≡ c.loop-fault.text.items ++ message = search rules in
     taken_turn told faults i item before between after c.loop-fault.text.items c.extend_from_slice.new.self.items message (search rules) c.loop-fault.invariant
-    (subst (λ (f : Fault). told f between after message) is c.in_ok-message.ensures.told) pushed
+    (subst (λ (f : Fault). told f between after message) is c.in_ok-message.ensures.stated) pushed

@@ -9,4 +9,4 @@ returns-in-Some c =
     let page = c.args.«module».now.page.now in
     let name = c.args.«module».now.question.now.name.now in
     let imports = map arc_value c.args.«module».now.question.now.imports.now in
-    following (subst (λ o. IfSome o (λ t. IsCauseNote c.args.«module».now.paint page.file.now page.lines name imports c.args.found.now.fault.now t.items)) c.in-Some.is c.in_ok-note.ensures)
+    following (subst (λ o. IfSome o (λ t. IsCauseNote c.args.«module».now.format page.file.now page.lines name imports c.args.found.now.fault.now t.items)) c.in-Some.is c.in_ok-note.ensures)

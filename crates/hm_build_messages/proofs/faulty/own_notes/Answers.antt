@@ -8,7 +8,7 @@ use Rattle.hm_build_messages.proofs.faulty.own_notes.Goals as goal
 
 pub returns : goal.returns
 returns c =
-    let paint = c.args.«module».now.paint in
+    let format = c.args.«module».now.format in
     let page = c.args.«module».now.page.now in
     let name = c.args.«module».now.question.now.name.now in
     let imports = map arc_value c.args.«module».now.question.now.imports.now in
@@ -26,8 +26,8 @@ returns c =
       signed = signed;
       both = both;
       leads = leads;
-      noted = kept_noted note kept both (IsNote paint page.file.now page.lines name imports fault) is_kept c.in_ok-note.ensures;
+      noted = kept_noted note kept both (IsNote format page.file.now page.lines name imports fault) is_kept c.in_ok-note.ensures;
       signature = c.in_ok-signed.ensures;
-      jointly = kept_alone note kept both (AreJointNotes paint page.file.now page.lines name imports fault both) is_kept c.in_ok-both.ensures;
+      jointly = kept_alone note kept both (AreJointNotes format page.file.now page.lines name imports fault both) is_kept c.in_ok-both.ensures;
       whole = whole ∙ ap (λ (l : List ℕ). l ++ both) ordered;
     }

@@ -10,7 +10,7 @@ use Rattle.hm_build_messages.proofs.faulty.signature_note.Goals as goal
 
 pub returns : goal.returns
 returns c =
-    let paint = c.args.«module».now.paint in
+    let format = c.args.«module».now.format in
     let page = c.args.«module».now.page.now in
     let name = c.args.«module».now.question.now.name.now in
     let imports = map arc_value c.args.«module».now.question.now.imports.now in
@@ -20,8 +20,8 @@ returns c =
     let placed = c.in-Some-reader_place.ensures.some in
     let text = c.in_ok-text.text.items in
     let changes = c.in_ok-text.ensures.0 in
-    let said : IsPartMessage paint page.file.now page.lines signature None (unsigned_subject c.as_str.result.now (reader_place signature.end placed.0) own) changes text
-    = subst (λ (p : Place). IsPartMessage paint page.file.now page.lines signature None (unsigned_subject c.as_str.result.now p own) changes text) placed.2 c.in_ok-text.ensures.2 in
+    let said : IsPartMessage format page.file.now page.lines signature None (unsigned_subject c.as_str.result.now (reader_place signature.end placed.0) own) changes text
+    = subst (λ (p : Place). IsPartMessage format page.file.now page.lines signature None (unsigned_subject c.as_str.result.now p own) changes text) placed.2 c.in_ok-text.ensures.2 in
     inr (record {
       untyped = c.in-Some.ensures.own.0;
       signature = signature;
@@ -32,7 +32,7 @@ returns c =
       columns_at = placed.1;
       changes = changes;
       retyped = subst (λ (d : List ℕ). IsRetyped page.lines d signature own changes) c.as_str.ensures c.in_ok-text.ensures.1;
-      told = subst (λ (d : List ℕ). IsPartMessage paint page.file.now page.lines signature None (unsigned_subject d (reader_place signature.end placed.0) own) changes text) c.as_str.ensures said;
+      stated = subst (λ (d : List ℕ). IsPartMessage format page.file.now page.lines signature None (unsigned_subject d (reader_place signature.end placed.0) own) changes text) c.as_str.ensures said;
     })
 
 pub signature_text-requires-clause-same : goal.signature_text-requires-clause-same

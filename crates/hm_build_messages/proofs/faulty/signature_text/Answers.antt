@@ -14,5 +14,5 @@ returns c =
     let changes : List Changed = map changed_of c.in_ok-changes.changes.items in
     let text = c.in_ok-part_message.field-0.items in
     let retyped : IsRetyped c.args.«module».now.question.now.source.now name signature own changes = search rules in
-    let told : IsPartMessage c.args.«module».now.paint page.file.now page.lines signature None (unsigned_subject name c.args.end own) changes text = search rules in
+    let told : IsPartMessage c.args.«module».now.format page.file.now page.lines signature None (unsigned_subject name c.args.end own) changes text = search rules in
     (changes, subst (λ (s : List ℕ). IsRetyped s name signature own changes) c.requires.same retyped, told)

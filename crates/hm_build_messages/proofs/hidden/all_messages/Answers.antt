@@ -5,7 +5,7 @@ pub returns-then-allowance : goal.returns-then-allowance
 returns-then-allowance c = record {
   messages = c.in_ok-text.text.items;
   notes = [];
-  told = c.in_ok-text.ensures;
+  stated = c.in_ok-text.ensures;
   beyond = inl refl;
   silent = λ e. refl;
   whole = sym (append-nil c.in_ok-text.text.items);
@@ -15,7 +15,7 @@ pub returns : goal.returns
 returns c = record {
   messages = c.in_ok-text.text.items;
   notes = c.in_ok-notes.notes.items;
-  told = c.in_ok-text.ensures;
+  stated = c.in_ok-text.ensures;
   beyond = c.in_ok-notes.ensures;
   silent = λ e. search rules;
   whole = search rules;

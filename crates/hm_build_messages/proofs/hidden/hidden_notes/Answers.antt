@@ -12,7 +12,7 @@ use Rattle.hm_build_messages.proofs.hidden.hidden_notes.Goals as goal
 
 pub returns : goal.returns
 returns c =
-    let told = c.args.told.now in
+    let told = c.args.view.now in
     let p = module_set told.modules.now told.plan.now in
     let status = statuses_of told.settled.now in
     let faulty = c.args.faulty in
@@ -22,10 +22,10 @@ returns c =
     let fs = map arc_value c.in-Some.imports.items in
     let name : List ℕ = c.as_str.result.now in
     let text = c.in_ok-module_notes.field-0.items in
-    let named : name ≡ (module_at p number).header.name.text = search rules ∙ sym (name_by_place told.modules.now told.plan.now number c.index-told-faulty.result c.requires.number c.index-told-faulty.is) in
+    let named : name ≡ (module_at p number).header.name.text = search rules ∙ sym (name_by_place told.modules.now told.plan.now number c.index-view-faulty.result c.requires.number c.index-view-faulty.is) in
     let have : ArePublished (settlement told.store.now) c.imports.result.now fs =
     subst (λ o. IfSome o (λ interfaces. ArePublished (settlement told.store.now) c.imports.result.now (map arc_value interfaces.items))) c.in-Some.is c.in_ok-imports.ensures in
     let published : ArePublished status (imports_of p number) fs =
     subst (λ s. ArePublished s (imports_of p number) fs) (sym c.requires.settled) (subst (λ row. ArePublished (settlement told.store.now) row fs) c.imports.ensures have) in
-    beyond_page told.pages.now.paint pages faulty.source page p status number name fs faulty.faults.now text c.requires.source (search rules) named published
-    (subst (λ l. (text ≡ []) ⊎ AreHiddenStated told.pages.now.paint page.file.now page.lines name (map arc_value l) faulty.faults.now text) c.as_slice.ensures.value c.in_ok-module_notes.ensures)
+    beyond_page told.pages.now.format pages faulty.source page p status number name fs faulty.faults.now text c.requires.source (search rules) named published
+    (subst (λ l. (text ≡ []) ⊎ AreHiddenStated told.pages.now.format page.file.now page.lines name (map arc_value l) faulty.faults.now text) c.as_slice.ensures.value c.in_ok-module_notes.ensures)

@@ -7,7 +7,7 @@ use Rattle.hm_build_messages.proofs.hidden.notes_of.Goals as goal
 pub loop-fault-preserved : goal.loop-fault-preserved
 loop-fault-preserved c =
     let page = c.args.page.now in
-    let told = IsHiddenNote c.args.paint page.file.now page.lines in
+    let told = IsHiddenNote c.args.format page.file.now page.lines in
     let faults = c.args.faults.now in
     let i = c.loop-fault.fault-index in
     let item : Fault = c.fault-item.result in

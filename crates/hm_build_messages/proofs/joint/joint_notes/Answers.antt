@@ -6,7 +6,7 @@ use Rattle.hm_build_messages.proofs.joint.joint_notes.Goals as goal
 
 pub returns : goal.returns
 returns c =
-    let paint = c.args.«module».now.paint in
+    let format = c.args.«module».now.format in
     let page = c.args.«module».now.page.now in
     let name = c.args.«module».now.question.now.name.now in
     let imports = map arc_value c.args.«module».now.question.now.imports.now in
@@ -22,8 +22,8 @@ returns c =
       suffices = subst (λ (s : List ℕ). HasTypeWithBoth s name imports fault.name first second) c.requires c.in-Some.ensures.suffices;
       needed = subst (λ (s : List ℕ). NeedsBoth s name imports fault.name first second) c.requires c.in-Some.ensures.needed;
       one = one;
-      one_told = subst (λ (d : List ℕ). (one ≡ []) ⊎ IsJointNote paint page.file.now page.lines d first second one) c.as_str-definition.ensures c.in_ok-text.ensures;
+      one_stated = subst (λ (d : List ℕ). (one ≡ []) ⊎ IsJointNote format page.file.now page.lines d first second one) c.as_str-definition.ensures c.in_ok-text.ensures;
       two = two;
-      two_told = subst (λ (d : List ℕ). (two ≡ []) ⊎ IsJointNote paint page.file.now page.lines d second first two) c.as_str-definition.ensures c.in_ok-second.ensures;
+      two_stated = subst (λ (d : List ℕ). (two ≡ []) ⊎ IsJointNote format page.file.now page.lines d second first two) c.as_str-definition.ensures c.in_ok-second.ensures;
       whole = search rules;
     })

@@ -8,7 +8,7 @@ use Rattle.hm_build_messages.proofs.refused.further_messages.Goals as goal
 
 pub loop-source-preserved : goal.loop-source-preserved
 loop-source-preserved c =
-    let paint = c.args.pages.now.paint in
+    let format = c.args.pages.now.format in
     let files = files_in c.args.pages.now.items.items in
     let texts : List (List ℕ) = texts_in c.args.pages.now.items.items in
     let from = c.args.from in
@@ -21,13 +21,13 @@ loop-source-preserved c =
     elim c.match-branch-2.branch [
       | in-Some+in_ok-extend_from_slice w ↦
           (let message = w.in-Some.message in
-          let first : IsFirstStated paint files texts source (Some message.items) = search rules in
+          let first : IsFirstStated format files texts source (Some message.items) = search rules in
           let pushed : c.match-branch-2.text.items ≡ text ++ message.items = search rules in
           let counted : c.match-branch-2.errors ≡ c.loop-source.errors + 1 = search rules in
-          rw (pushed, counted) (told_more paint files texts from source c.loop-source.errors text low within told message.items first))
+          rw (pushed, counted) (told_more format files texts from source c.loop-source.errors text low within told message.items first))
       | in_default w ↦
-          (let first : IsFirstStated paint files texts source None = search rules in
+          (let first : IsFirstStated format files texts source None = search rules in
           let kept : c.match-branch-2.text.items ≡ text = search rules in
           let counted : c.match-branch-2.errors ≡ c.loop-source.errors = search rules in
-          rw (kept, counted) (stated_none paint files texts from source c.loop-source.errors text low within told first))
+          rw (kept, counted) (stated_none format files texts from source c.loop-source.errors text low within told first))
     ]

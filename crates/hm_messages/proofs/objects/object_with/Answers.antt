@@ -7,8 +7,8 @@ use Rattle.hm_messages.specs.Subjects.{subject_of}
 use Rattle.hm_messages.proofs.objects.object_with.Goals as goal
 use Rattle.hm_messages.proofs.objects.object_with.Goals.{in-Some-hint, in-None}
 
-pub returns-clause-told : goal.returns-clause-told
-returns-clause-told c =
+pub returns-clause-stated : goal.returns-clause-stated
+returns-clause-stated c =
     let told : Message = record {
       file = c.as_str-2.result;
       start = c.in-Some.start;

@@ -16,7 +16,7 @@ returns c =
       spot.place,
       record {
         first = first;
-        told = c.in_ok-text.ensures;
+        stated = c.in_ok-text.ensures;
         ways = ways.0;
         lines = lines;
         steps = ways.1;

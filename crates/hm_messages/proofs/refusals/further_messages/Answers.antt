@@ -11,4 +11,4 @@ loop-import-preserved c =
     let pages = c.args.pages.now in
     let message = c.in_ok-message.message.items in
     let pushed : c.extend_from_slice.new.self.items ≡ c.loop-import.text.items ++ message = search rules in
-    taken_more (λ (i : MissingImport) (t : List ℕ). IsMissingStated pages.paint (files_in pages.items.items) (texts_in pages.items.items) (import_of i) t) c.args.imports.now c.loop-import.import-index _ c.loop-import.text.items c.extend_from_slice.new.self.items message (search rules) c.loop-import.invariant c.in_ok-message.ensures pushed
+    taken_more (λ (i : MissingImport) (t : List ℕ). IsMissingStated pages.format (files_in pages.items.items) (texts_in pages.items.items) (import_of i) t) c.args.imports.now c.loop-import.import-index _ c.loop-import.text.items c.extend_from_slice.new.self.items message (search rules) c.loop-import.invariant c.in_ok-message.ensures pushed

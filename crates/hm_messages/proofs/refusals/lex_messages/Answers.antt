@@ -13,8 +13,8 @@ returns-in_ok-source_messages-in-Lexeme c =
       place = c.in-Lexeme.place;
       placed = (refl, refl);
       first = text;
-      told = c.in_ok-source_messages-in-Lexeme.ensures;
-      behind = [];
+      stated = c.in_ok-source_messages-in-Lexeme.ensures;
+      rest = [];
       followed = (refl, refl);
       whole = sym (append-nil text);
     })

@@ -30,7 +30,7 @@ further_messages-requires-clause-inside c =
 pub returns-clause-ok : goal.returns-clause-ok
 returns-clause-ok c =
     let pages = c.args.pages.now in
-    let paint = pages.paint in
+    let format = pages.format in
     let files = files_in pages.items.items in
     let texts = texts_in pages.items.items in
     let name = c.args.name.now in
@@ -46,14 +46,14 @@ returns-clause-ok c =
       first.place,
       c.in_ok-text.text.items,
       c.in_ok-further.further.items,
-      subst (λ (n : List ℕ). IsMissingStated paint files texts (record { number = first.source; place = first.place; name = n }) c.in_ok-text.text.items) called c.in_ok-text.ensures,
+      subst (λ (n : List ℕ). IsMissingStated format files texts (record { number = first.source; place = first.place; name = n }) c.in_ok-text.text.items) called c.in_ok-text.ensures,
       first_named texts c.args.located.now (import_of first) (map import_of more) c.requires all_of,
       record {
         located = c.args.located.now;
         of_sources = c.requires;
         more = map import_of more;
         all = all_of ∙ (ap (λ (n : List ℕ). record { number = first.source; place = first.place; name = n } ∷ map import_of more) called);
-        told = each_mapped import_of (IsMissingStated paint files texts) more c.in_ok-further.further.items c.in_ok-further.ensures;
+        stated = each_mapped import_of (IsMissingStated format files texts) more c.in_ok-further.further.items c.in_ok-further.ensures;
         count = many ∙ (ap (λ (l : List MissingImport). length l) parts ∙ omega (arith, length-map more import_of));
       },
       pushed,

@@ -9,4 +9,4 @@ loop-step-preserved c =
     let line = c.in_ok-line.line.items in
     let text = c.loop-step.text.items in
     let pushed : c.extend_from_slice.new.self.items ≡ text ++ line = search rules in
-    more_ways pages.paint (files_in pages.items.items) (texts_in pages.items.items) text line c.extend_from_slice.new.self.items c.loop-step.invariant c.in_ok-line.ensures pushed
+    more_ways pages.format (files_in pages.items.items) (texts_in pages.items.items) text line c.extend_from_slice.new.self.items c.loop-step.invariant c.in_ok-line.ensures pushed

@@ -2,7 +2,7 @@ use Rattle.std.proofs.Common.{rules, ◌≡◌, Err, inl, inr, refl, string_byte
 use Rattle.hm_build_output.proofs.Telling.{stated_to}
 use Rattle.hm_build.proofs.RunFaults.{not_of_writing, some_at, writes_failed}
 use Rattle.hm_run_io.proofs.Runs.{reads_before, reads_done, reads_passed_on, writes_nothing}
-use Rattle.hm_build.proofs.explained_runs.run_explained.Goals as goal
+use Rattle.hm_build.proofs.runs_with_messages.run_with_messages.Goals as goal
 
 pub returns-in-Some-clause-reads : goal.returns-in-Some-clause-reads
 returns-in-Some-clause-reads g c = reads_passed_on (λ d. g.R.Read.remaining d) c.args.readers.now c.read_and_check.new.readers c.in-Err.fault (Err c.in-Err.fault) refl c.in-Err.ensures.reads
@@ -28,7 +28,7 @@ pub returns-in_err-write_text-clause-reads : goal.returns-in_err-write_text-clau
 returns-in_err-write_text-clause-reads g c =
     let e = c.in_err-write_text.field-0.0 in
     let is : c.from_residual.result ≡ Err e = search rules in
-    reads_before (λ d. g.R.Read.remaining d) c.args.readers.now c.read_and_check.new.readers c.in-Ok.explained e c.from_residual.result is (inl (search rules)) c.in-Ok.ensures.reads
+    reads_before (λ d. g.R.Read.remaining d) c.args.readers.now c.read_and_check.new.readers c.in-Ok.output e c.from_residual.result is (inl (search rules)) c.in-Ok.ensures.reads
 
 pub returns-in_err-write_text-clause-writes : goal.returns-in_err-write_text-clause-writes
 returns-in_err-write_text-clause-writes g c =
@@ -37,35 +37,19 @@ returns-in_err-write_text-clause-writes g c =
     writes_failed c.args.outputs.now.writer c.write_text-2.new.writer e c.from_residual.result is c.in_err-write_text.ensures.others c.in_err-write_text.ensures.once c.in_err-write_text.ensures.cause
 
 pub returns-clause-reads : goal.returns-clause-reads
-returns-clause-reads g c = reads_done (λ d. g.R.Read.remaining d) c.args.readers.now c.read_and_check.new.readers c.in-Ok.explained c.in-Ok.explained.answer.status c.in-Ok.ensures.reads
+returns-clause-reads g c = reads_done (λ d. g.R.Read.remaining d) c.args.readers.now c.read_and_check.new.readers c.in-Ok.output c.in-Ok.output.status c.in-Ok.ensures.reads
 
 pub returns-in_err-write_text-clause-prefix : goal.returns-in_err-write_text-clause-prefix
 returns-in_err-write_text-clause-prefix g c e sources told =
-    let a = c.in-Ok.explained.answer in
-    (a.status, string_bytes a.text, c.in-Ok.ensures.ok sources told, search rules)
+    let o = c.in-Ok.output in
+    (o.status, string_bytes o.text, o.messages.items, c.in-Ok.ensures.ok sources told, search rules)
 
 pub returns-clause-ok : goal.returns-clause-ok
 returns-clause-ok g c sources told =
-    let a = c.in-Ok.explained.answer in
-    (string_bytes a.text, c.in-Ok.ensures.ok sources told, search rules)
-
-pub returns-clause-told : goal.returns-clause-told
-returns-clause-told g c sources told =
-    let a = c.in-Ok.explained in (
-      string_bytes a.answer.text,
-      a.messages.items,
-      c.in-Ok.ensures.told sources told,
-      search rules,
-      stated_to c.write_text-3.result _ _ a.messages.items _ (search rules) (search rules) (search rules),
-    )
+    let o = c.in-Ok.output in
+    (string_bytes o.text, o.messages.items, c.in-Ok.ensures.ok sources told, search rules, stated_to c.write_text-3.result _ _ o.messages.items _ (search rules) (search rules) (search rules))
 
 pub returns-clause-given : goal.returns-clause-given
 returns-clause-given g c =
-    let a = c.in-Ok.explained in (
-      string_bytes a.answer.text,
-      a.messages.items,
-      c.in-Ok.ensures.given,
-      c.in-Ok.ensures.given_told,
-      search rules,
-      stated_to c.write_text-3.result _ _ a.messages.items _ (search rules) (search rules) (search rules),
-    )
+    let o = c.in-Ok.output in
+    (string_bytes o.text, o.messages.items, c.in-Ok.ensures.given, search rules, stated_to c.write_text-3.result _ _ o.messages.items _ (search rules) (search rules) (search rules))

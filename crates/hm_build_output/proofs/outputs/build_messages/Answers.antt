@@ -6,7 +6,7 @@ use Rattle.hm_run_sources.proofs.ModuleCounts.{have_origins}
 use Rattle.hm_messages.specs.ModuleStarts.{AreStartsOf, module_start, start_of}
 use Rattle.hm_messages.specs.declared.starts.ModuleStart.{ModuleStart}
 use Rattle.hm_build_messages.proofs.Starting.{counted_starts, map_twice}
-use Rattle.hm_build_output.proofs.explained.build_messages.Goals as goal
+use Rattle.hm_build_output.proofs.outputs.build_messages.Goals as goal
 
 pub starts_of-requires : goal.starts_of-requires
 starts_of-requires c =
