@@ -14,6 +14,8 @@ A = "module A where { f x = x ; g = f 1 }\n"
 B = "module B where { import A ; h :: Char -> Bool -> Char ; h c b = c ; k = h True 'c' ; m = g }\n"
 # The most seconds of processor time for the references and the symbols of a source of 1 MB.
 LONGEST = 15
+# A module whose names begin with what no name of Prelude begins with, after a letter of two units of UTF-16 and four of UTF-8.
+V = "module V where { import A ; {- \U0001F600 -} data Wot = Wog Int | Woh ; vombat x = x ; vomble = A.g }"
 TYPED = "p = case f 1 of { 0 -> True ; _ -> False } ; "
 
 
@@ -79,6 +81,7 @@ def start_and_check(it):
     made = it.ask("initialize", capabilities={"general": {"positionEncodings": ["utf-16"]}})["result"]["capabilities"]
     it.row("encoding", made["positionEncoding"], "utf-16")
     it.row("renames", made["renameProvider"], True)
+    it.row("completions", made["completionProvider"], {"triggerCharacters": ["."]})
     it.notify("initialized")
     found = it.published(1)
     it.row("diagnostics of the folder", codes(found["B.hs"]), ["type"])
@@ -108,6 +111,68 @@ def outline(it, doc):
     it.row("symbols of the folder", found, [{"kind": 12, "location": {"range": between(B, "k =", 1), "uri": it.uri("B.hs")}, "name": "k"}])
     it.row("no query", it.ask("workspace/symbol")["error"]["code"], -32602)
     it.row("symbols of no document", it.ask("textDocument/documentSymbol", textDocument={"uri": it.uri("C.hs")})["error"]["code"], -32602)
+
+
+def in_units(text, offset, encoding="utf-16"):
+    """Returns the position after so many letters of a text of one line."""
+    size = {"utf-8": 1, "utf-16": 2}[encoding]
+    return {"line": 0, "character": len(text[:offset].encode(encoding + "-le" if size > 1 else encoding)) // size}
+
+
+def completed(it, doc, text, end, encoding="utf-16"):
+    """Returns what the server offers after so many letters of a text of one line: names, kinds and types, with the one range that they replace."""
+    found = it.ask("textDocument/completion", textDocument=doc, position=in_units(text, end, encoding))["result"]
+    it.row("all names are offered at once", found["isIncomplete"], False)
+    it.row("the edits write the names", [one["textEdit"]["newText"] for one in found["items"]], [one["label"] for one in found["items"]])
+    ranges = [one["textEdit"]["range"] for one in found["items"]]
+    it.row("the names have one range", all(one == ranges[0] for one in ranges), True)
+    return sorted((one["label"], one["kind"], one.get("detail")) for one in found["items"]), ranges and ranges[0]
+
+
+def complete(it, encoding="utf-16"):
+    """Asks for the names that may be written at places of V: variables, constructors and types of its scope, bare and qualified ones."""
+    doc, end = {"uri": it.uri("V.hs")}, V.index("A.g")
+    it.notify("textDocument/didOpen", textDocument={**doc, "languageId": "haskell", "version": 1, "text": V})
+
+    def before(text, size):
+        return {"start": in_units(text, len(text) - size, encoding), "end": in_units(text, len(text), encoding)}
+
+    own = [("vomble", 3, "Int"), ("vombat", 3, "a -> a")]
+    rows = [
+        ("names with a prefix", V[: V.index("mbat")], sorted(own), 2),
+        ("names with a prefix that is longer", V[: V.index("bat")], sorted(own), 3),
+        ("types and constructors", V[: V.index("ot =")], [("Wog", 4, "Int -> V.Wot"), ("Woh", 4, "V.Wot"), ("Wot", 22, None)], 1),
+        ("qualified names", V[: end + 2], [("A.f", 3, "a -> a"), ("A.g", 3, "Int")], 2),
+        ("one qualified name", V[: end + 3], [("A.g", 3, "Int")], 3),
+    ]
+    for what, text, names, size in rows:
+        it.row(what, completed(it, doc, V, len(text), encoding), (names, before(text, size)))
+    names, where = completed(it, doc, V, end, encoding)
+    labels = [name for name, _, _ in names]
+    wanted = {"A.f", "Bool", "V.vombat", "True", "f", "map", "vombat", "Wot"}
+    it.row("names without a prefix", (sorted(wanted - set(labels)), "x" in labels, where), ([], False, before(V[:end], 0)))
+    late = it.ask("textDocument/completion", textDocument=doc, position={"line": 7, "character": 0})["result"]["items"]
+    it.row("names after the end", (len(late), late[0]["textEdit"]["range"]), (len(names), before(V, 0)))
+    complete_as_typed(it, doc, encoding)
+    it.notify("textDocument/didClose", textDocument=doc)
+    it.settle()
+
+
+def complete_as_typed(it, doc, encoding):
+    """Asks in texts that can't be read, and in modules without completions."""
+    unread = V[: V.index("A.g")] + "( vomb"
+    it.notify("textDocument/didChange", textDocument={**doc, "version": 2}, contentChanges=[{"text": unread}])
+    found = completed(it, doc, unread, len(unread), encoding)[0]
+    it.row("names of the last text that could be read", [name for name, _, _ in found], ["vombat", "vomble"])
+    text = V.replace("import A", "import B")
+    it.notify("textDocument/didChange", textDocument={**doc, "version": 3}, contentChanges=[{"text": text}])
+    it.row("a skipped module has none", completed(it, doc, text, text.index("mbat"), encoding), ([], []))
+    text = V.replace("A.g", "nothing")
+    it.notify("textDocument/didChange", textDocument={**doc, "version": 4}, contentChanges=[{"text": text}])
+    found = completed(it, doc, text, text.index("mbat"), encoding)[0]
+    it.row("names of a faulty module have no types", found, [("vombat", 3, None), ("vomble", 3, None)])
+    it.row("completions of no document", it.ask("textDocument/completion", textDocument={"uri": it.uri("None.hs")}, position=position(B, "{"))["error"]["code"], -32602)
+    it.row("completions at no position", it.ask("textDocument/completion", textDocument=doc)["error"]["code"], -32602)
 
 
 def renamed(text, edits):
@@ -187,6 +252,7 @@ def look(it):
     it.row("nothing at a bracket", it.ask("textDocument/hover", textDocument=doc, position=position(B, "{"))["result"], None)
     refer(it, doc)
     outline(it, doc)
+    complete(it)
     rename(it, doc)
     it.row("no such document", it.ask("textDocument/hover", textDocument={"uri": it.uri("C.hs")}, position=position(B, "{"))["error"]["code"], -32602)
     it.row("an unknown method", it.ask("textDocument/formatting")["error"]["code"], -32601)
@@ -212,6 +278,30 @@ def type_letters(it):
         it.notify("textDocument/didChange", textDocument={**doc, "version": 2 + number}, contentChanges=[{"range": {"start": at, "end": at}, "text": letter}])
     hover = it.ask("textDocument/hover", textDocument=doc, position=position(A, "g =", len(TYPED)))["result"]
     it.row("the name after what was typed", hover is not None, True)
+
+
+def keep_faults(it):
+    """Types a definition letter by letter into A, and waits for the diagnostics of each state. B keeps its own fault in all of them, and so it does
+    while A imports a module that isn't there."""
+    a, b = it.uri("A.hs"), it.uri("B.hs")
+    it.notify("textDocument/didChange", textDocument={"uri": b, "version": 100}, contentChanges=[{"text": B}])
+    it.notify("textDocument/didChange", textDocument={"uri": a, "version": 100}, contentChanges=[{"text": A}])
+    it.settle()
+    it.row("B has a fault of its own", codes(it.shown.get(b, [])), ["type"])
+    states = [A.replace("f x", typed[:size] + "f x") for typed in (TYPED, "import Missing ; ") for size in range(len(typed) + 1)]
+    for number, text in enumerate(states):
+        it.notify("textDocument/didChange", textDocument={"uri": a, "version": 101 + number}, contentChanges=[{"text": text}])
+        it.settle()
+        it.row(f"B keeps its fault beside {text!r}", codes(it.shown.get(b, [])), ["type"])
+    it.notify("textDocument/didChange", textDocument={"uri": b, "version": 101}, contentChanges=[{"text": B.replace("k =", "  k =")}])
+    it.settle()
+    it.row("a fault that moves is at its place of now", [each["range"]["start"] for each in it.shown.get(b, []) if each["severity"] == 1], [position(B, "k =", 2)])
+    it.notify("textDocument/didChange", textDocument={"uri": b, "version": 102}, contentChanges=[{"text": B.replace("h True 'c'", "h 'c' True")}])
+    it.settle()
+    it.row("B has no fault when it is mended", codes(it.shown.get(b, [])), [])
+    it.notify("textDocument/didChange", textDocument={"uri": a, "version": 300}, contentChanges=[{"text": A}])
+    it.settle()
+    it.row("nothing is skipped any more", [it.shown.get(uri, []) for uri in (a, b)], [[], []])
 
 
 def escape_letters(it):
@@ -288,7 +378,7 @@ def offer(it):
     plain = it.ask("initialize", capabilities={})["error"]["code"]
     it.row("initialize again", plain, -32600)
     other = Client(it.program, it.folder)
-    offered = {"textDocument": {"rename": {"prepareSupport": True}}, "workspace": {"didChangeWatchedFiles": {"dynamicRegistration": True}}}
+    offered = {"general": {"positionEncodings": ["utf-8"]}, "textDocument": {"rename": {"prepareSupport": True}}, "workspace": {"didChangeWatchedFiles": {"dynamicRegistration": True}}}
     made = other.ask("initialize", capabilities=offered)["result"]["capabilities"]
     other.row("renames with their names", made["renameProvider"], {"prepareProvider": True})
     other.notify("initialized")
@@ -297,6 +387,7 @@ def offer(it):
     watched = [it["registerOptions"] for it in message["params"]["registrations"] if it["method"] == "workspace/didChangeWatchedFiles"]
     other.row("a request to watch files", (message["method"], watched), ("client/registerCapability", [{"watchers": [{"globPattern": "**/*.hs"}]}]))
     other.send({"id": message["id"], "result": None})
+    complete(other, "utf-8")
     finish(other)
     it.rows, it.wrong = it.rows + other.rows, it.wrong + other.wrong
 
@@ -349,7 +440,7 @@ def main(program=lsp.PROVED):
             with open(os.path.join(folder, name), "w", encoding="utf-8") as file:
                 file.write(text)
         it = Client(os.path.abspath(program), folder)
-        for part in (start_and_check, look, mend, type_letters, escape_letters, move_diagnostics, watch_files, cancel, offer, refer_often, nest_deeply, bad_input, finish):
+        for part in (start_and_check, look, mend, type_letters, keep_faults, escape_letters, move_diagnostics, watch_files, cancel, offer, refer_often, nest_deeply, bad_input, finish):
             part(it)
     print(f"{it.rows - it.wrong} of {it.rows} rows as wanted")
     return 1 if it.wrong else 0

@@ -5,8 +5,9 @@
 five documents, of which four have files. An edit replaces a text, changes some ranges, types a definition in a burst of changes, closes a document or
 opens it again. Some come byte by byte. `--returns` also puts in carriage returns that are alone.
 
-After each edit all diagnostics are those of a server that is started anew for the same texts, and so is the reply to a request at a random place. The
-diagnostics of texts that can't be read are those of hmc. So are all others if the texts that stand for all sources are a lawful set. At the end the
+After each edit the reply to a request at a random place is that of a server that is started anew for the same texts. The diagnostics of texts that
+can't be read are those of hmc. So are all others if the texts that stand for all sources are a lawful set, and then those of both servers are the same.
+A document with a skipped module has those of hmc among its own: the second check adds more, by texts that the other server never had. At the end the
 server has little more memory than after the first tenth of the edits. Ends with 1 where something differs.
 """
 import argparse
@@ -213,7 +214,7 @@ class Walk:
         document = self.chance.choice([it for it in self.documents if it.version is not None or it.file is not None])
         line, column = position_of(document.text, place_of(self.chance, document.text), self.encoding)
         position = {"line": line, "character": column}
-        method = self.chance.choice(["hover", "definition", "references", "documentHighlight", "documentSymbol", "codeAction", "prepareRename", "rename"])
+        method = self.chance.choice(["hover", "definition", "references", "documentHighlight", "documentSymbol", "codeAction", "prepareRename", "rename", "completion"])
         where = {"range": {"start": position, "end": position}} if method == "codeAction" else {"position": position}
         context = {"diagnostics": [], "includeDeclaration": self.chance.random() < 0.5}
         name = self.chance.choice(["x", "renamed", "Renamed", "of"])
@@ -228,12 +229,14 @@ class Walk:
         reply = self.client.ask(*request)
         found = shown(self.client)
         again, wanted = self.anew(request)
-        if found != again:
-            raise Differs("other diagnostics than those of a server that is started anew", found, again)
+        missed = {name for its in (found, again) for name, all_of in its.items() if any(it[2] == "skipped" for it in all_of)}
+        for name in expected.keys() - missed:
+            if found.get(name, []) != again.get(name, []):
+                raise Differs(f"other diagnostics of {name} than those of a server that is started anew", found, again)
         if reply.get("result", reply.get("error")) != wanted:
             raise Differs("another reply than that of a server that is started anew", request, reply, wanted)
         for name, its in expected.items():
-            if found.get(name, []) != its:
+            if not set(its) <= set(found.get(name, [])) or (name not in missed and found.get(name, []) != its):
                 raise Differs(f"other diagnostics of {name} than hmc's", found.get(name, []), its)
 
     def go(self):

@@ -4,10 +4,13 @@ pub mod Listed
 pub mod Located
 pub mod Referred
 pub mod Requests
+mod CompletionValues
 mod DeclaredValues
 mod Matching
 mod FolderSymbols
 mod Refusals
+mod NameStarts
 mod RenameEdits
 mod Walked
+mod WorkedCompletions
 mod WorkedResults

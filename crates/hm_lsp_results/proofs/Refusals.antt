@@ -7,7 +7,7 @@ use Rattle.serde_json.specs.declared.value.Value.{Value}
 use Rattle.hm_lsp_positions.specs.declared.positions.Position.{Position}
 use Rattle.hm_lsp_session.specs.Params.{string_at}
 use Rattle.hm_lsp_session.specs.declared.stages.Question.{Question}
-use Rattle.hm_lsp_session.specs.declared.stages.Question.TheVariants.{CodeAction, Definition, DocumentHighlight, DocumentSymbol, Hover, PrepareRename, References, Rename, WorkspaceSymbol}
+use Rattle.hm_lsp_session.specs.declared.stages.Question.TheVariants.{CodeAction, Completion, Definition, DocumentHighlight, DocumentSymbol, Hover, PrepareRename, References, Rename, WorkspaceSymbol}
 use Rattle.hm_lsp_results.specs.Asked.{IsSourceIn, Subject}
 use Rattle.hm_lsp_results.specs.Prepared.{IsNotRenamableAt, IsPrepareValue}
 use Rattle.hm_lsp_results.specs.Renames.{IsFaultBy, IsRefusedAt}
@@ -86,6 +86,7 @@ in_document asked DocumentSymbol request result other h = h
 in_document asked CodeAction request result other h = h
 in_document asked Rename request result other h = h
 in_document asked PrepareRename request result other h = h
+in_document asked Completion request result other h = h
 in_document asked WorkspaceSymbol request result other h = absurd (other refl)
 
 pub result_in_document : (asked : Subject) (question : Question) (request : Data) (r : Result (Option Value) RequestFault) → ¬ (question ≡ WorkspaceSymbol) → IfOk r (λ made. IsDocumentResult asked question request (option_map view made))

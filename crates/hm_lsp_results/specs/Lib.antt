@@ -1,4 +1,5 @@
 pub mod Asked
+pub mod Completions
 pub mod References
 pub mod Matches
 pub mod Prepared

@@ -1,4 +1,4 @@
--- The results of requests about the texts, and their replies (Language Server Protocol 3.17, "Hover Request", "Goto Definition Request", "Code Action Request"; "Find References Request" and "Document Highlights Request" are in References, "Document Symbols Request" and "Workspace Symbols Request" in Symbols, "Rename Request" in Renames, and "Prepare Rename Request" in Prepared).
+-- The results of requests about the texts, and their replies (Language Server Protocol 3.17, "Hover Request", "Goto Definition Request", "Code Action Request"; "Find References Request" and "Document Highlights Request" are in References, "Document Symbols Request" and "Workspace Symbols Request" in Symbols, "Rename Request" in Renames, "Prepare Rename Request" in Prepared, and "Completion Request" in Completions).
 use Rattle.std.specs.Prelude.{◌≡◌, ◌≤◌, ◌⊎◌, ℕ, negsuc, Bool, true, List, Option, None, Some, codes, length, map, option_and_then, slice_get, string_bytes}
 use Rattle.serde_json.specs.Data.{Data, array, no_items, null}
 use Rattle.serde_json.specs.Find.{as_bool, pointer}
@@ -11,7 +11,7 @@ use Rattle.hm_lsp_session.specs.Params.{IsPositionIn, IsRangeIn, string_at}
 use Rattle.hm_lsp_session.specs.Replies.{refusal_data, reply_data}
 use Rattle.hm_lsp_session.specs.Stages.{code_of}
 use Rattle.hm_lsp_session.specs.declared.stages.Question.{Question}
-use Rattle.hm_lsp_session.specs.declared.stages.Question.TheVariants.{CodeAction, Definition, DocumentHighlight, DocumentSymbol, Hover, PrepareRename, References, Rename, WorkspaceSymbol}
+use Rattle.hm_lsp_session.specs.declared.stages.Question.TheVariants.{CodeAction, Completion, Definition, DocumentHighlight, DocumentSymbol, Hover, PrepareRename, References, Rename, WorkspaceSymbol}
 use Rattle.hm_lsp_session.specs.declared.stages.Refusal.TheVariants.{InvalidParams, RequestFailed}
 use Rattle.hm_lsp_values.specs.Diagnostics.{action_data}
 use Rattle.hm_lsp_values.specs.Names.{IsHover, IsLocation}
@@ -25,6 +25,7 @@ use Rattle.hm_service_places.specs.declared.places.AtPlace.{AtPlace}
 use Rattle.hm_service_rename.specs.declared.results.RenameRefusal.{RenameRefusal}
 use Rattle.hm_service_sources.specs.declared.held.HeldSource.{HeldSource}
 use Rattle.hm_lsp_results.specs.Asked.{HasNothingAt, HasUri, IsNamedAt, IsReadText, IsSourceIn, Subject}
+use Rattle.hm_lsp_results.specs.Completions.{IsCompletionsResult}
 use Rattle.hm_lsp_results.specs.Prepared.{IsNotRenamableAt, IsPrepareValue}
 use Rattle.hm_lsp_results.specs.References.{IsHighlightsResult, IsReferencesResult}
 use Rattle.hm_lsp_results.specs.Renames.{IsRefusedAt, IsRenameValue, sentence_of}
@@ -125,6 +126,7 @@ IsResultOf asked DocumentSymbol n request result = (value : Data) × (IsSymbolsR
 IsResultOf asked CodeAction n request result = (r : Option Range) × (HasRange request r × IsResultFor (IsActionsResult asked.encoding asked.sources asked.held asked.checked n) r result)
 IsResultOf asked Rename n request result = IsRenameRequestResult asked n request result
 IsResultOf asked PrepareRename n request result = IsResultAtPosition (IsPrepareValue asked n) request result
+IsResultOf asked Completion n request result = IsResultAtPosition (IsCompletionsResult asked n) request result
 -- it is about no source
 IsResultOf asked WorkspaceSymbol n request result = result ≡ None
 

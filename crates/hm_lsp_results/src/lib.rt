@@ -2,6 +2,7 @@
 #![tactic(auto)]
 
 mod asking;
+mod completing;
 mod declared;
 mod faults;
 mod folder;

@@ -4,12 +4,14 @@ ghost use Rattle.serde_json.specs.View.{view};
 ghost use Rattle.hm_lsp_session.specs.Params.{string_at};
 ghost use Rattle.hm_lsp_session.specs.Replies.{IsReplyTo, method_of};
 ghost use Rattle.hm_lsp_results.specs.Asked.{subject_of};
+ghost use Rattle.hm_lsp_results.specs.Completions.{IsCompletionsResult};
 ghost use Rattle.hm_lsp_results.specs.Prepared.{IsPrepareValue};
 ghost use Rattle.hm_lsp_results.specs.Renames.{IsFaultBy, sentence_of};
 ghost use Rattle.hm_lsp_results.specs.Results.{HasPosition, HasRange, IsDocumentResult, IsNotRenamableIn, IsRefusedIn, IsRefusedOf, IsRefusedRename, IsReply, IsRenameRequestResult, IsResult, IsResultAtPosition, IsResultFor, IsResultOf, failure_data, with_declarations};
 ghost use Rattle.hm_lsp_results.specs.Symbols.{AreFound};
 
 use crate::asking::{Asked, actions, definition, hover, source_in};
+use crate::completing::completions;
 use crate::declared::symbols;
 use crate::faults::RequestFault;
 use crate::folder::found_symbols;
@@ -95,6 +97,20 @@ fn prepare_result<T: Threads + Wait + Sync>(
     }
 }
 
+/// Returns the names that may be written at the position of a request, or `None` if its parameters aren't valid.
+fn completion_result(
+    asked: &Asked<'_>,
+    source: usize,
+    request: &Value,
+) -> Result<Option<Value>, AllocError>
+    ensures { IfOk result (λ made. IsResultAtPosition (IsCompletionsResult (subject_of asked.now) source) (view request.now) (option_map view made)) }
+{
+    let Some(position) = position_of_request(request) else {
+        return Ok(None);
+    };
+    Ok(Some(completions(asked, source, position)?))
+}
+
 /// Returns the result of a request about a source, or `None` if its parameters aren't valid.
 fn result_of<T: Threads + Wait + Sync>(
     rt: &T,
@@ -121,6 +137,9 @@ fn result_of<T: Threads + Wait + Sync>(
     if question == Question::PrepareRename {
         return prepare_result(rt, asked, source, request);
     }
+    if question == Question::Completion {
+        return Ok(completion_result(asked, source, request)?);
+    }
     let Some(position) = position_of_request(request) else {
         return Ok(None);
     };
@@ -136,6 +155,7 @@ fn result_of<T: Threads + Wait + Sync>(
         | Question::CodeAction
         | Question::Rename
         | Question::PrepareRename
+        | Question::Completion
         | Question::WorkspaceSymbol => Ok(None),
     }
 }

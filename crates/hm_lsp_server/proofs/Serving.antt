@@ -19,7 +19,8 @@ use Rattle.hm_service_places.specs.declared.checked.Checked.{Checked}
 use Rattle.hm_lsp_results.specs.Asked.{Subject}
 use Rattle.hm_lsp_results.specs.Results.{IsReply}
 use Rattle.hm_lsp_server.specs.Served.{IsServed, IsServedBy, subject_in}
-use Rattle.hm_lsp_server.specs.Servers.{IsCurrent, IsFollowing, checked_of, documents_in, held_of, session_of, workers}
+use Rattle.hm_lsp_server.specs.Second.{workers}
+use Rattle.hm_lsp_server.specs.Servers.{IsCurrent, IsFollowing, checked_of, documents_in, held_of, session_of}
 use Rattle.hm_lsp_server.specs.declared.server.Server.{Server}
 
 by_reply : (s : Server) (c : Checked) (question : Asked) (message id reply : Data) → checked_of s ≡ Some c → IsHeldCheck workers (held_of s) c → IsReply (subject_in s c) question message id reply → IsServedBy s question message id reply

@@ -1,6 +1,7 @@
 pub mod Published
 pub mod Replied
 pub mod Served
+pub mod Second
 pub mod Servers
 pub mod Taken
 pub mod Worked

@@ -15,7 +15,8 @@ use Rattle.hm_service.specs.Checks.{IsHeldCheck}
 use Rattle.hm_service_places.specs.declared.checked.Checked.{Checked}
 use Rattle.hm_lsp_results.specs.Asked.{Subject}
 use Rattle.hm_lsp_results.specs.Results.{IsReply, failure_data}
-use Rattle.hm_lsp_server.specs.Servers.{IsFollowing, checked_of, documents_in, held_of, session_of, sources_of, workers}
+use Rattle.hm_lsp_server.specs.Second.{workers}
+use Rattle.hm_lsp_server.specs.Servers.{IsFollowing, checked_of, documents_in, held_of, session_of, sources_of}
 use Rattle.hm_lsp_server.specs.declared.server.Server.{Server}
 
 -- what the server replies from, by a check

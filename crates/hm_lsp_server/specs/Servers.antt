@@ -9,6 +9,7 @@ use Rattle.hm_lsp_sources.specs.Held.{held_in, named_in}
 use Rattle.hm_service.specs.Checks.{IsHeldCheck}
 use Rattle.hm_service_places.specs.declared.checked.Checked.{Checked}
 use Rattle.hm_service_sources.specs.declared.held.HeldSource.{HeldSource}
+use Rattle.hm_lsp_server.specs.Second.{workers}
 use Rattle.hm_lsp_server.specs.declared.server.Server.{Server}
 use Rattle.hm_lsp_server.specs.declared.server.SourceFile.{SourceFile}
 use Rattle.hm_lsp_sources.specs.declared.source.Source.{Source}
@@ -28,6 +29,10 @@ held_of s = held_in s.sources
 abbrev pub shown_of : Server → List (Option (List ℕ))
 shown_of s = map (option_map string_bytes) s.shown.items
 
+-- the last good text of each source, if it had one: the last one of which all modules were good when diagnostics were sent
+abbrev pub good_of : Server → List (Option (List ℕ))
+good_of s = map (option_map (λ t. t.items)) s.good.items
+
 -- the last check, if the texts are still those of before
 abbrev pub checked_of : Server → Option Checked
 checked_of s = s.checked
@@ -35,10 +40,6 @@ checked_of s = s.checked
 -- whether the texts have changed since the diagnostics were sent
 abbrev pub is_changed : Server → Bool
 is_changed s = s.is_changed
-
--- the number of workers of each check
-abbrev pub workers : ℕ
-workers = 4
 
 -- a check is always one of the texts that are held now
 abbrev pub IsCurrent : Server → Type 0

@@ -1,7 +1,13 @@
--- Worked examples: replies to a notification and to a request, what else follows from a message, and what is sent of a source.
+-- Worked examples: replies to a notification and to a request, what else follows from a message, what is sent of a source, and what is shown of a second check.
 use Rattle.std.specs.Prelude.{◌≡◌, ℕ, List, [], ◌∷◌, None, Some, codes}
 use Rattle.serde_json.specs.Data.{Data, null}
 use Rattle.hm_lsp_positions.specs.declared.units.Encoding.TheVariants.{Utf16}
+use Rattle.hm_service_messages.specs.declared.diagnostic.Diagnostic.{Diagnostic}
+use Rattle.hm_service_places.specs.declared.checked.Checked.{Checked}
+use Rattle.hm_service_sources.specs.declared.held.HeldSource.{HeldSource}
+use Rattle.hm_service_stand_ins.specs.Missed.{HasTextOfNow}
+use Rattle.hm_lsp_server.specs.Second.{AreSecondAt}
+use Rattle.hm_lsp_server.specs.declared.second.SecondCheck.{SecondCheck}
 use Rattle.hm_lsp_server.specs.Published.{AreCleared, AreSent, diagnostics_notice}
 use Rattle.hm_lsp_server.specs.Replied.{AreRepliesTo}
 use Rattle.hm_lsp_server.specs.Taken.{IsRegistration, replies_in}
@@ -21,6 +27,12 @@ pub record SentRow : Type 0 where
   pub not_silent : ¬ (AreSent Utf16 (Some (codes "file:///a.hs")) (codes "file:///a.hs") [] [])
   pub moved : AreCleared Utf16 (Some (codes "file:///%61.hs")) (codes "file:///a.hs") (diagnostics_notice Utf16 (codes "file:///%61.hs") [] ∷ [])
   pub not_kept : ¬ (AreCleared Utf16 (Some (codes "file:///%61.hs")) (codes "file:///a.hs") [])
+
+-- without a second check nothing of one is shown. Nothing is shown at a source of which it had another text than that of now
+pub record SecondRow : Type 0 where
+  pub none : (held : List HeldSource) (c : Checked) → AreSecondAt held c None 0 []
+  pub not_without : (held : List HeldSource) (c : Checked) (d : Diagnostic) → ¬ (AreSecondAt held c None 0 (d ∷ []))
+  pub not_older : (held : List HeldSource) (c : Checked) (s : SecondCheck) (d : Diagnostic) → ¬ (HasTextOfNow held s.set.items 0) → ¬ (AreSecondAt held c (Some s) 0 (d ∷ []))
 
 -- an end is no reply. The client is sent no other request than the registration
 pub record TakenRow : Type 0 where

@@ -1,5 +1,5 @@
 //! Worked examples.
-ghost use Rattle.hm_lsp_server.specs.Worked.{RepliesRow, SentRow, TakenRow};
+ghost use Rattle.hm_lsp_server.specs.Worked.{RepliesRow, SecondRow, SentRow, TakenRow};
 
 /// Replies to a notification and to a request, and what else follows from a message.
 #[tactic(auto, using(crate::proofs::WorkedReplies::worked_replies, crate::proofs::WorkedReplies::worked_taken))]
@@ -8,8 +8,9 @@ pub fn worked_replies()
     ensures taken { TakenRow }
 {}
 
-/// What is sent of a source.
-#[tactic(auto, using(crate::proofs::WorkedSources::worked_sent))]
+/// What is sent of a source, and what is shown of a second check.
+#[tactic(auto, using(crate::proofs::WorkedSources::worked_sent, crate::proofs::WorkedSources::worked_second))]
 pub fn worked_sources()
-    ensures { SentRow }
+    ensures sent { SentRow }
+    ensures second { SecondRow }
 {}

@@ -4,6 +4,7 @@
 #![tactic(auto)]
 
 pub mod laws;
+mod second;
 mod server;
 mod taken;
 mod telling;

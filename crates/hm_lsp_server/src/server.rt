@@ -11,25 +11,26 @@ ghost use Rattle.hm_lsp_session.specs.declared.documents.Document.{Document};
 ghost use Rattle.hm_lsp_sources.specs.Files.{IsFileRead};
 ghost use Rattle.hm_lsp_sources.specs.Following.{AreFollowing, AreKept};
 ghost use Rattle.hm_lsp_sources.specs.Held.{held_in, named_in};
-ghost use Rattle.hm_lsp_server.specs.Published.{IsPublished, IsSameButShown, IsShown, no_check_notice};
+ghost use Rattle.hm_service_places.specs.declared.checked.Checked.{Checked};
+ghost use Rattle.hm_lsp_server.specs.Published.{AreOfCheck, IsPublished, IsSameButShown, IsShown, no_check_notice};
+ghost use Rattle.hm_lsp_server.specs.Second.{AreGoodSince, IsSecondCheck};
 ghost use Rattle.hm_lsp_server.specs.Replied.{IsReplyOf};
 ghost use Rattle.hm_lsp_server.specs.Served.{IsServed, IsServedBy, subject_in};
 ghost use Rattle.hm_lsp_server.specs.Taken.{IsTakenFrom, replies_in};
-ghost use Rattle.hm_lsp_server.specs.Servers.{HasFiles, IsCurrent, IsFileNoted, IsFollowing, IsNoted, IsOrderly, checked_of, documents_in, held_of, is_changed, session_of, sources_of};
+ghost use Rattle.hm_lsp_server.specs.Servers.{HasFiles, IsCurrent, IsFileNoted, IsFollowing, IsNoted, IsOrderly, checked_of, documents_in, good_of, held_of, is_changed, session_of, sources_of};
 
+use crate::second::{SecondCheck, WORKERS, check_again, said_by};
 use crate::taken::{Taken, registration};
-use crate::telling::tell;
+use crate::telling::{Telling, tell};
 use hm_lsp_results::{Asked, failure, replied};
 use hm_lsp_session::{Outcome, Question, Session, Stage, notice};
 use hm_lsp_sources::{Sources, uri_of};
-use hm_service::{Checked, check};
+use hm_service::{Checked, ServiceFault, check};
+use hm_service_stand_ins::good_texts;
 use serde_json::{Value, json};
 use std::alloc::{AllocError, Global};
 use std::sync::Wait;
 use std::thread::Threads;
-
-/// How many workers check the sources.
-const WORKERS: usize = 4;
 
 /// A file beside the documents, and its text.
 #[derive(Drop)]
@@ -63,6 +64,8 @@ pub struct Server {
     sources: Sources,
     /// The URI under which the client shows diagnostics of each source, if it shows some.
     shown: Vec<Option<String>>,
+    /// The last good text of each source, if it had one.
+    good: Vec<Option<Vec<u8>>>,
     /// The last check, unless the texts have changed since.
     checked: Option<Checked>,
     /// Whether the check of these texts failed. It isn't tried again before they change.
@@ -82,6 +85,7 @@ impl Server {
         ensures files { IfOk result (λ s. HasFiles files.items (sources_of s)) }
         ensures following { IfOk result (IsFollowing []) }
         ensures documents { IfOk result (λ s. documents_in s ≡ []) }
+        ensures good { IfOk result (λ s. good_of s ≡ []) }
         ensures changed { IfOk result (λ s. is_changed s ≡ true) }
     {
         let sources = sources_of_files(rt, alloc, files)?;
@@ -90,6 +94,7 @@ impl Server {
             session: Session::new(alloc),
             sources,
             shown: Vec::new(alloc),
+            good: Vec::new(alloc),
             checked: None,
             has_failed: false,
             is_changed: true,
@@ -101,6 +106,7 @@ impl Server {
         ensures checked { checked_of self.new ≡ None }
         ensures sources { self.new.sources ≡ self.old.sources }
         ensures shown { self.new.shown ≡ self.old.shown }
+        ensures good { self.new.good ≡ self.old.good }
         ensures session { self.new.session ≡ self.old.session }
         ensures changed { is_changed self.new ≡ true }
     {
@@ -115,6 +121,7 @@ impl Server {
         requires current { IsCurrent self.old }
         requires followed { (documents : List Document) × IsFollowing documents self.old }
         ensures orderly { OnOk result (IsOrderly self.new) }
+        ensures good { self.new.good ≡ self.old.good }
         ensures session { self.new.session ≡ self.old.session }
         ensures kept { OnOk result (AreKept (sources_of self.old) (sources_of self.new)) }
         ensures noted { OnOk result (IsNoted self.old self.new) }
@@ -135,6 +142,7 @@ impl Server {
         ensures current { IsCurrent self.new }
         ensures sources { self.new.sources ≡ self.old.sources }
         ensures shown { self.new.shown ≡ self.old.shown }
+        ensures good { self.new.good ≡ self.old.good }
         ensures session { self.new.session ≡ self.old.session }
         ensures changed { self.new.is_changed ≡ self.old.is_changed }
     {
@@ -157,6 +165,7 @@ impl Server {
         requires { IsCurrent self.old }
         ensures current { IsCurrent self.new }
         ensures sources { self.new.sources ≡ self.old.sources }
+        ensures good { self.new.good ≡ self.old.good }
         ensures session { self.new.session ≡ self.old.session }
         ensures changed { self.new.is_changed ≡ self.old.is_changed }
         ensures served { IfOk result (λ made. (id : Data) → get (codes "id") (view request.now) ≡ Some id → IsServedBy self.new question (view request.now) id (view made)) }
@@ -216,6 +225,7 @@ impl Server {
         ensures served { IfOk result (λ t. IsServed self.old self.new body.now (replies_in t)) }
         ensures taken { IfOk result (IsTakenFrom (session_of self.new) body.now) }
         ensures kept { OnOk result (AreKept (sources_of self.old) (sources_of self.new)) }
+        ensures good { good_of self.new ≡ good_of self.old }
         ensures noted { OnOk result (IsNoted self.old self.new) }
     {
         match self.session.take(body)? {
@@ -255,6 +265,7 @@ impl Server {
         ensures orderly { OnOk result (IsOrderly self.new) }
         ensures read { OnOk result (IsFileRead (percent_decode uri.now) (option_map (λ t. t.items) file) (sources_of self.old) (sources_of self.new)) }
         ensures session { session_of self.new ≡ session_of self.old }
+        ensures good { good_of self.new ≡ good_of self.old }
         ensures noted { OnOk result (IsFileNoted self.old self.new) }
     {
         let documents = self.session.documents().as_slice();
@@ -266,12 +277,13 @@ impl Server {
         Ok(())
     }
 
-    /// Adds the diagnostics of all sources, if the texts have changed since the last call and the client has initialized the server. If the check
-    /// fails, a message says so, and the client shows the diagnostics of before.
+    /// Adds the diagnostics of all sources, if the texts have changed since the last call and the client has initialized the server. They are those of a
+    /// check of the texts, and of a second one for modules that the first has missed. If a check fails, a message says so. If it is the first one, the
+    /// client shows the diagnostics of before.
     ///
     /// # Errors
     ///
-    /// If memory runs out for what is sent.
+    /// If memory runs out for what is sent or for a good text.
     pub fn publish<T: Threads + Wait + Sync>(
         &mut self,
         rt: &T,
@@ -289,11 +301,49 @@ impl Server {
         }
         self.is_changed = false;
         self.refresh(rt);
-        Ok(self.tell(sent)?)
+        self.note_good()?;
+        Ok(self.tell(rt, sent)?)
     }
 
-    /// Adds the diagnostics of all sources by the check of these texts, or the message that it failed.
-    fn tell(&mut self, sent: &mut Vec<Value>) -> Result<(), AllocError>
+    /// Keeps the last good texts after the check of these texts, if there is one.
+    fn note_good(&mut self) -> Result<(), AllocError>
+        requires { IsCurrent self.old }
+        ensures current { IsCurrent self.new }
+        ensures good { OnOk result (AreGoodSince (held_of self.old) (checked_of self.old) (good_of self.old) (good_of self.new)) }
+        ensures checked { self.new.checked ≡ self.old.checked }
+        ensures sources { self.new.sources ≡ self.old.sources }
+        ensures shown { self.new.shown ≡ self.old.shown }
+        ensures session { self.new.session ≡ self.old.session }
+        ensures changed { self.new.is_changed ≡ self.old.is_changed }
+    {
+        let Some(checked) = &self.checked else {
+            return Ok(());
+        };
+        let said = said_by(checked);
+        let good = good_texts(self.alloc, &said, self.sources.held(), self.good.as_slice())?;
+        self.good = good;
+        Ok(())
+    }
+
+    /// Makes the second check of these texts after the first one, if it is needed.
+    fn second<T: Threads + Wait + Sync>(
+        &self,
+        rt: &T,
+        checked: &Checked,
+    ) -> Result<Option<SecondCheck>, ServiceFault>
+        ensures { IfOk result (IsSecondCheck (held_of self.now) checked.now (good_of self.now)) }
+    {
+        let held = self.sources.held();
+        let good = self.good.as_slice();
+        Ok(check_again(rt, self.alloc, held, checked, good)?)
+    }
+
+    /// Adds the diagnostics of all sources by the checks of these texts, and the message that one failed.
+    fn tell<T: Threads + Wait + Sync>(
+        &mut self,
+        rt: &T,
+        sent: &mut Vec<Value>,
+    ) -> Result<(), AllocError>
         requires { IsCurrent self.old }
         ensures kept { IsSameButShown self.old self.new }
         ensures published { OnOk result ((new : List Data) × (map view sent.new.items ≡ map view sent.old.items ++ new) × IsShown self.old self.new new) }
@@ -302,8 +352,38 @@ impl Server {
             sent.push(no_check(self.alloc)?)?;
             return Ok(());
         };
-        let asked = self.asked(checked);
-        let shown = tell(&asked, self.shown.as_slice(), sent)?;
+        match self.second(rt, checked) {
+            Ok(second) => Ok(self.tell_both(&second, sent)?),
+            Err(_) => {
+                sent.push(no_check(self.alloc)?)?;
+                Ok(self.tell_both(&None, sent)?)
+            }
+        }
+    }
+
+    /// Adds the diagnostics of all sources by the check of these texts and by a second one, if there is one.
+    fn tell_both(
+        &mut self,
+        second: &Option<SecondCheck>,
+        sent: &mut Vec<Value>,
+    ) -> Result<(), AllocError>
+        requires { IsCurrent self.old }
+        ensures kept { IsSameButShown self.old self.new }
+        ensures published { OnOk result ((new : List Data) × (map view sent.new.items ≡ map view sent.old.items ++ new)
+            × ((c : Checked) → checked_of self.old ≡ Some c → AreOfCheck self.old self.new c second.now new)) }
+    {
+        let Some(checked) = &self.checked else {
+            return Ok(());
+        };
+        let telling = Telling {
+            alloc: self.alloc,
+            encoding: self.session.encoding(),
+            sources: self.sources.named(),
+            held: self.sources.held(),
+            checked,
+            second: second.as_ref(),
+        };
+        let shown = tell(&telling, self.shown.as_slice(), sent)?;
         self.shown = shown;
         Ok(())
     }

@@ -6,7 +6,7 @@ use Rattle.hm_lsp_session.specs.declared.stages.Decision.TheVariants.{End, Go, I
 use Rattle.hm_lsp_session.specs.declared.stages.Method.{Method}
 use Rattle.hm_lsp_session.specs.declared.stages.Method.TheVariants.{DidChange, DidChangeWatchedFiles, DidClose, DidOpen, Exit, Initialize, Initialized, Question, Shutdown, Unknown}
 use Rattle.hm_lsp_session.specs.declared.stages.Question.{Question as Asked}
-use Rattle.hm_lsp_session.specs.declared.stages.Question.TheVariants.{CodeAction, Definition, DocumentHighlight, DocumentSymbol, Hover, PrepareRename, References, Rename, WorkspaceSymbol}
+use Rattle.hm_lsp_session.specs.declared.stages.Question.TheVariants.{CodeAction, Completion, Definition, DocumentHighlight, DocumentSymbol, Hover, PrepareRename, References, Rename, WorkspaceSymbol}
 use Rattle.hm_lsp_session.specs.declared.stages.Refusal.{Refusal}
 use Rattle.hm_lsp_session.specs.declared.stages.Refusal.TheVariants.{InvalidParams, InvalidRequest, MethodNotFound, NotInitialized, ParseError, RequestCancelled, RequestFailed}
 use Rattle.hm_lsp_session.specs.declared.stages.Stage.{Stage}
@@ -23,8 +23,9 @@ question_named name =
     else (if bytes_eq name (codes "textDocument/codeAction") then Some CodeAction
     else (if bytes_eq name (codes "textDocument/rename") then Some Rename
     else (if bytes_eq name (codes "textDocument/prepareRename") then Some PrepareRename
+    else (if bytes_eq name (codes "textDocument/completion") then Some Completion
     else (if bytes_eq name (codes "workspace/symbol") then Some WorkspaceSymbol
-    else None))))))))
+    else None)))))))))
 
 abbrev pub method_of_question : Option Asked → Method
 method_of_question None = Unknown

@@ -95,9 +95,11 @@ fn capabilities(alloc: Global, encoding: Encoding, params: &Value) -> Result<Val
         Encoding::Utf32 => "utf-32",
     };
     let renames = rename_provider(alloc, params)?;
-    let renames = &renames;
+    let completions = json!(in alloc; {"triggerCharacters": ["."]})?;
+    let (completions, renames) = (&completions, &renames);
     let capabilities = json!(in alloc; {
         "codeActionProvider": true,
+        "completionProvider": completions,
         "definitionProvider": true,
         "documentHighlightProvider": true,
         "documentSymbolProvider": true,

@@ -24,6 +24,7 @@ pub enum Question {
     CodeAction,
     Rename,
     PrepareRename,
+    Completion,
     /// The only one about the whole folder.
     WorkspaceSymbol,
 }
@@ -103,6 +104,7 @@ impl Question {
             "textDocument/codeAction" => Some(Question::CodeAction),
             "textDocument/rename" => Some(Question::Rename),
             "textDocument/prepareRename" => Some(Question::PrepareRename),
+            "textDocument/completion" => Some(Question::Completion),
             "workspace/symbol" => Some(Question::WorkspaceSymbol),
             _ => None,
         }

@@ -1,4 +1,5 @@
 mod Showing
+mod WorkedCompletions
 mod WorkedValues
 mod WorkedSpans
 mod Walked

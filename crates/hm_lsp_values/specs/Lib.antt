@@ -1,3 +1,4 @@
+pub mod Completions
 pub mod Diagnostics
 pub mod Names
 pub mod Places

@@ -1,17 +1,21 @@
 -- Worked examples.
-use Rattle.std.specs.Prelude.{◌≡◌, [], ◌∷◌, true, false, Some, None, codes}
-use Rattle.serde_json.specs.Data.{array, item, member, no_items, no_members, null, number, object, string, unsigned}
+use Rattle.std.specs.Prelude.{◌≡◌, [], ◌∷◌, true, false, Some, None, codes, option_map, string_bytes}
+use Rattle.serde_json.specs.Data.{array, boolean, item, member, no_items, no_members, null, number, object, string, unsigned}
+use Rattle.hm_lsp_positions.specs.declared.positions.Position.{Position}
 use Rattle.hm_lsp_positions.specs.declared.units.Encoding.TheVariants.{Utf8, Utf16}
 use Rattle.hm_messages_json.specs.declared.message.Level.TheVariants.{Error, Note}
 use Rattle.hm_messages_json.specs.declared.message.Position.{Position as Place}
+use Rattle.hm_lsp_values.specs.Completions.{completion_data, completion_kind, completions_data}
 use Rattle.hm_lsp_values.specs.Diagnostics.{severity_of, text_with}
 use Rattle.hm_lsp_values.specs.Names.{IsShown}
 use Rattle.hm_lsp_values.specs.Places.{position_of_place}
 use Rattle.hm_lsp_values.specs.References.{kind_of}
 use Rattle.hm_lsp_values.specs.Renames.{IsReplacement, IsTargetValue, document_edit_data, replacement_data, target_data, workspace_edit_data}
-use Rattle.hm_lsp_values.specs.Spans.{IsSpan}
+use Rattle.hm_lsp_values.specs.Spans.{IsSpan, span_data}
 use Rattle.hm_lsp_values.specs.Symbols.{symbol_data, symbol_kind}
 use Rattle.hm_names.specs.Worked.{at}
+use Rattle.hm_names.specs.declared.namespace.Namespace.TheVariants.{Constructors, Types, Values}
+use Rattle.hm_scope_typed_names.specs.declared.typed.TypedName.{TypedName}
 use Rattle.hm_uses_references.specs.declared.finding.Reference.{Reference}
 use Rattle.hm_uses_symbols.specs.Symbols.{symbol}
 use Rattle.hm_uses_symbols.specs.declared.symbol.SymbolKind.TheVariants.{Constructor, DataType, Variable}
@@ -53,3 +57,21 @@ pub record RenamesRow : Type 0 where
       (member (codes "textDocument") (object (member (codes "uri") (string (codes "u")) (member (codes "version") null no_members))) no_members))) no_items)) no_members)
   pub target : (r : Reference) → r.line ≡ 1 → r.column ≡ 5 → r.length ≡ 1 → IsTargetValue Utf16 (codes "f = f") (codes "f") r (target_data (codes "f") (record { line = 0; column = 4 }) (record { line = 0; column = 5 }))
   pub not_target : (r : Reference) → ¬ (IsTargetValue Utf16 (codes "f = f") (codes "f") r null)
+
+-- the start of a text, and the place after its first unit
+abbrev pub start : Position
+start = record { line = 0; column = 0 }
+
+abbrev pub second : Position
+second = record { line = 0; column = 1 }
+
+-- a type `T` in place of one letter, and a variable, which has a type. Constructors are of another kind. A list without names isn't null
+pub record CompletionsRow : Type 0 where
+  pub of_type : (n : TypedName) → n.space ≡ Types → string_bytes n.text ≡ codes "T" → option_map string_bytes n.scheme ≡ None
+      → completion_data start second n ≡ object (member (codes "kind") (number (unsigned 22)) (member (codes "label") (string (codes "T"))
+      (member (codes "textEdit") (object (member (codes "newText") (string (codes "T")) (member (codes "range") (span_data start second) no_members))) no_members)))
+  pub of_variable : (n : TypedName) → n.space ≡ Values → string_bytes n.text ≡ codes "A.f" → option_map string_bytes n.scheme ≡ Some (codes "Int")
+      → completion_data start second n ≡ object (member (codes "detail") (string (codes "Int")) (member (codes "kind") (number (unsigned 3)) (member (codes "label") (string (codes "A.f"))
+      (member (codes "textEdit") (object (member (codes "newText") (string (codes "A.f")) (member (codes "range") (span_data start second) no_members))) no_members))))
+  pub not_alike : ¬ (completion_kind Values ≡ completion_kind Constructors)
+  pub no_names : completions_data start second [] ≡ object (member (codes "isIncomplete") (boolean false) (member (codes "items") (array no_items) no_members))

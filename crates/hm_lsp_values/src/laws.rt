@@ -1,5 +1,5 @@
 //! Worked examples. Each is a function with an empty body, and its contract states the example.
-ghost use Rattle.hm_lsp_values.specs.Worked.{HoverRow, RenamesRow, SpanRow, SymbolsRow, ValuesRow};
+ghost use Rattle.hm_lsp_values.specs.Worked.{CompletionsRow, HoverRow, RenamesRow, SpanRow, SymbolsRow, ValuesRow};
 
 /// Positions, severities and texts.
 #[tactic(auto, using(crate::proofs::WorkedValues::worked_values))]
@@ -29,4 +29,10 @@ pub fn worked_symbols()
 #[tactic(auto, using(crate::proofs::WorkedSpans::worked_renames))]
 pub fn worked_renames()
     ensures { RenamesRow }
+{}
+
+/// Names that may be written, with and without a type.
+#[tactic(auto, using(crate::proofs::WorkedCompletions::worked_completions))]
+pub fn worked_completions()
+    ensures { CompletionsRow }
 {}

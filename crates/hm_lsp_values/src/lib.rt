@@ -3,6 +3,7 @@
 //! The protocol is the Language Server Protocol 3.17 ("Basic JSON Structures"). Places of the checker have lines and columns from 1, and positions of the protocol from 0.
 #![tactic(auto)]
 
+mod completions;
 mod diagnostics;
 pub mod laws;
 mod names;
@@ -12,6 +13,7 @@ mod renames;
 mod spans;
 mod symbols;
 
+pub use crate::completions::completions_value;
 pub use crate::diagnostics::{action_value, diagnostic_value};
 pub use crate::names::{hover_value, location_value};
 pub use crate::positions::place_at;

@@ -25,7 +25,7 @@ struct Row {
 }
 
 // The codes are those of JSON-RPC 2.0, section 5.1, and of the Language Server Protocol 3.17, "Error Codes".
-const ROWS: [Row; 30] = [
+const ROWS: [Row; 31] = [
     Row {
         body: "{{{",
         wanted: -32700,
@@ -108,6 +108,10 @@ const ROWS: [Row; 30] = [
     },
     Row {
         body: "{\"id\":12,\"method\":\"textDocument/prepareRename\"}",
+        wanted: ASK,
+    },
+    Row {
+        body: "{\"id\":14,\"method\":\"textDocument/completion\"}",
         wanted: ASK,
     },
     Row {

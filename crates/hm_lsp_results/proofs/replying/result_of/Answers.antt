@@ -1,7 +1,8 @@
-use Rattle.std.proofs.Common.{rules, ◌≡◌}
+use Rattle.std.proofs.Common.{rules, ◌≡◌, option_map}
 use Rattle.serde_json.specs.View.{view}
-use Rattle.hm_lsp_session.specs.declared.stages.Question.TheVariants.{DocumentSymbol, PrepareRename, Rename}
+use Rattle.hm_lsp_session.specs.declared.stages.Question.TheVariants.{Completion, DocumentSymbol, PrepareRename, Rename}
 use Rattle.hm_lsp_results.specs.Asked.{subject_of}
+use Rattle.hm_lsp_results.proofs.CompletionValues.{completion_of}
 use Rattle.hm_lsp_results.proofs.DeclaredValues.{symbols_result}
 use Rattle.hm_lsp_results.proofs.Refusals.{not_renamable_of, prepared_of, refused_of, renamed_of}
 use Rattle.hm_lsp_results.proofs.replying.result_of.Goals as goal
@@ -30,3 +31,8 @@ pub returns-then-eq-4-clause-refused : goal.returns-then-eq-4-clause-refused
 returns-then-eq-4-clause-refused g c =
     let is : c.args.question ≡ PrepareRename = search rules in
     not_renamable_of (subject_of c.args.asked.now) c.args.question c.args.source (view c.args.request.now) c.prepare_result.result is c.prepare_result.ensures.refused
+
+pub returns-then-eq-5-clause-result : goal.returns-then-eq-5-clause-result
+returns-then-eq-5-clause-result g c =
+    let is : c.args.question ≡ Completion = search rules in
+    completion_of (subject_of c.args.asked.now) c.args.question c.args.source (view c.args.request.now) (option_map view c.in_ok-completion_result.field-0) is c.in_ok-completion_result.ensures

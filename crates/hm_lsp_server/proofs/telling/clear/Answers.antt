@@ -7,7 +7,7 @@ use Rattle.hm_lsp_server.proofs.telling.clear.Goals as goal
 
 pub returns : goal.returns
 returns c =
-    let encoding = c.args.asked.now.encoding in
+    let encoding = c.args.telling.now.encoding in
     let notice = c.in_ok-notice_of.field-0 in
     let apart : ¬ (c.in-Some.old.now ≡ c.args.uri.now) = search rules in
     let cleared : AreCleared encoding (Some c.in-Some.old.now) c.args.uri.now (view notice ∷ []) = inr (apart, ap (λ d. d ∷ []) c.in_ok-notice_of.ensures) in (

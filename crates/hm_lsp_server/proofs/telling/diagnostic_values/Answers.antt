@@ -8,10 +8,10 @@ use Rattle.hm_lsp_server.proofs.telling.diagnostic_values.Goals as goal
 
 pub returns : goal.returns
 returns c =
-    view-Array c.diagnostics.values ∙ are_diagnostics c.args.asked.now.encoding c.args.found.now c.diagnostics.values.items
-    (c.diagnostics.invariant ∙ ap (map (λ d. diagnostic_data c.args.asked.now.encoding d.now)) (take_all c.diagnostics.diagnostic-index c.args.found.now (search rules)))
+    view-Array c.diagnostics.values ∙ are_diagnostics c.args.telling.now.encoding c.args.found.now c.diagnostics.values.items
+    (c.diagnostics.invariant ∙ ap (map (λ d. diagnostic_data c.args.telling.now.encoding d.now)) (take_all c.diagnostics.diagnostic-index c.args.found.now (search rules)))
 
 pub diagnostics-preserved : goal.diagnostics-preserved
 diagnostics-preserved c =
-    valued_more (λ d. diagnostic_data c.args.asked.now.encoding d.now) c.args.found.now c.diagnostics.diagnostic-index c.diagnostic-item.result c.diagnostics.values.items c.push.new.self.items c.in_ok-diagnostic_value.field-0 c.diagnostics-test.true
+    valued_more (λ d. diagnostic_data c.args.telling.now.encoding d.now) c.args.found.now c.diagnostics.diagnostic-index c.diagnostic-item.result c.diagnostics.values.items c.push.new.self.items c.in_ok-diagnostic_value.field-0 c.diagnostics-test.true
     c.diagnostic-item.is c.diagnostics.invariant c.in_ok-diagnostic_value.ensures c.in_ok-push.ensures.items

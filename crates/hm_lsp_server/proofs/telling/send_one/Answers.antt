@@ -8,19 +8,21 @@ use Rattle.hm_lsp_server.proofs.telling.send_one.Goals.{else-is_empty-via-then-i
 
 pub returns-then-not-is_shown : goal.returns-then-not-is_shown
 returns-then-not-is_shown c =
-    let asked = c.args.asked.now in
-    sent_none asked.encoding asked.held.now asked.checked.now (option_map (λ u. u.now) c.args.shown) c.args.number c.args.uri.now c.as_slice-found.result.now (map view c.args.sent.now.items)
-    (same_found asked.held.now asked.checked.now c.args.number c.as_slice-found.result.now c.in_ok-found.found.items c.as_slice-found.ensures.value c.in_ok-found.ensures) (sym c.is_empty.ensures ∙ c.if-is_empty.true)
+    let telling = c.args.telling.now in
+    let second = option_map (λ s. s.now) telling.second in
+    sent_none telling.encoding telling.held.now telling.checked.now second (option_map (λ u. u.now) c.args.shown) c.args.number c.args.uri.now c.as_slice-found.result.now (map view c.args.sent.now.items)
+    (same_found telling.held.now telling.checked.now second c.args.number c.as_slice-found.result.now c.in_ok-found.found.items c.as_slice-found.ensures.value c.in_ok-found.ensures) (sym c.is_empty.ensures ∙ c.if-is_empty.true)
     (c.is_shown.ensures.no c.if-not-is_shown.true)
 
 pub returns : goal.returns
 returns c =
-    let asked = c.args.asked.now in
+    let telling = c.args.telling.now in
+    let second = option_map (λ s. s.now) telling.second in
     let why : (nat_eq (length c.as_slice-found.result.now) 0 ≡ false) ⊎ (option_map (λ u. u.now) c.args.shown ≡ Some c.args.uri.now) = elim c.else-is_empty.branch [
       | else-is_empty-via-then-is_empty+else-not-is_shown w ↦ inr (w.is_shown.ensures.yes w.if-not-is_shown.false)
       | else-is_empty-via-else-is_empty w ↦ inl (sym c.is_empty.ensures ∙ w.if-is_empty.false)
     ] in
-    sent_some asked.encoding asked.held.now asked.checked.now (option_map (λ u. u.now) c.args.shown) c.args.number c.args.uri.now c.as_slice-found.result.now (option_map string_bytes c.in_ok-shown_under.field-0)
+    sent_some telling.encoding telling.held.now telling.checked.now second (option_map (λ u. u.now) c.args.shown) c.args.number c.args.uri.now c.as_slice-found.result.now (option_map string_bytes c.in_ok-shown_under.field-0)
     (map view c.args.sent.now.items) (map view c.push.new.self.items) (view c.in_ok-notice_of.field-0)
-    (same_found asked.held.now asked.checked.now c.args.number c.as_slice-found.result.now c.in_ok-found.found.items c.as_slice-found.ensures.value c.in_ok-found.ensures) why c.in_ok-shown_under.ensures c.in_ok-notice_of.ensures
+    (same_found telling.held.now telling.checked.now second c.args.number c.as_slice-found.result.now c.in_ok-found.found.items c.as_slice-found.ensures.value c.in_ok-found.ensures) why c.in_ok-shown_under.ensures c.in_ok-notice_of.ensures
     (ap (map view) c.in_ok-push.ensures.items ∙ map-append view c.args.sent.now.items (c.in_ok-notice_of.field-0 ∷ []))

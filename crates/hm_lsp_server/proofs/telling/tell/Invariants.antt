@@ -7,4 +7,4 @@ use Rattle.hm_lsp_server.proofs.telling.tell.Given as goal
 
 abbrev pub invariant-sources : goal.invariant-sources
 invariant-sources l = (new : List Data) × (map view l.sent.items ≡ map view l.initial.sent.items ++ new)
-    × AreTold (λ n. IsTold l.asked.encoding l.asked.sources.now l.asked.held.now l.asked.checked.now (slice_index_or (map (option_map string_bytes) l.shown) n None) n) l.number (map (option_map string_bytes) l.shows.items) new
+    × AreTold (λ n. IsTold l.telling.encoding l.telling.sources.now l.telling.held.now l.telling.checked.now (option_map (λ s. s.now) l.telling.second) (slice_index_or (map (option_map string_bytes) l.shown) n None) n) l.number (map (option_map string_bytes) l.shows.items) new

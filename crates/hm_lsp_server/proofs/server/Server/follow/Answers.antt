@@ -1,7 +1,7 @@
 use Rattle.std.proofs.Common.{◌≡◌, IfSome, subst, sym, ap, ◌∙◌}
 use Rattle.hm_service.specs.Checks.{IsHeldCheck}
 use Rattle.hm_lsp_server.proofs.Publishing.{orderly_without}
-use Rattle.hm_lsp_server.specs.Servers.{workers}
+use Rattle.hm_lsp_server.specs.Second.{workers}
 use Rattle.hm_lsp_session.specs.Documents.{listed}
 use Rattle.hm_lsp_session.specs.Effects.{documents_of}
 use Rattle.hm_lsp_sources.specs.Following.{AreFollowing}

@@ -2,7 +2,8 @@ use Rattle.std.proofs.Common.{◌≡◌, ◌∙◌, IfSome, ap, option_map, subs
 use Rattle.percent_encoding.specs.Percent.{percent_decode}
 use Rattle.hm_service.specs.Checks.{IsHeldCheck}
 use Rattle.hm_lsp_server.proofs.Publishing.{orderly_without}
-use Rattle.hm_lsp_server.specs.Servers.{sources_of, workers}
+use Rattle.hm_lsp_server.specs.Second.{workers}
+use Rattle.hm_lsp_server.specs.Servers.{sources_of}
 use Rattle.hm_lsp_session.specs.Documents.{listed}
 use Rattle.hm_lsp_session.specs.Effects.{documents_of}
 use Rattle.hm_lsp_sources.specs.Files.{IsFileRead}

@@ -1,0 +1,29 @@
+-- Worked examples: the last good text of a source, the text that stands for one in a second check, and the diagnostics that are shown.
+use Rattle.std.specs.Prelude.{◌≡◌, ◌≢◌, ℕ, false, List, [], ◌∷◌, Option, None, Some}
+use Rattle.hm_service_messages.specs.declared.diagnostic.Diagnostic.{Diagnostic}
+use Rattle.hm_service_sources.specs.declared.held.HeldSource.{HeldSource}
+use Rattle.hm_service_stand_ins.specs.Findings.{Findings, HasError, IsGoodIn}
+use Rattle.hm_service_stand_ins.specs.GoodTexts.{IsGoodAfter}
+use Rattle.hm_service_stand_ins.specs.Missed.{AreMissedAt, HasTextOfNow, IsMissed}
+use Rattle.hm_service_stand_ins.specs.StandIns.{IsSkip, StandsIn}
+
+-- a check that says nothing of the sources with these numbers
+abbrev pub silent : List ℕ → Findings
+silent part = record { part = part; refused = []; told = [] }
+
+-- a text whose modules are good is the last good one. One that can't be read isn't, and the one of before stays
+pub record GoodRow : Type 0 where
+  pub latest : (f : Findings) (h : HeldSource) (before : Option (List ℕ)) → IsGoodIn f h 0 → IsGoodAfter f 0 h before (Some h.text.items)
+  pub kept : (f : Findings) (h : HeldSource) (before : Option (List ℕ)) → h.is_read ≡ false → IsGoodAfter f 0 h before before
+  pub not_lost : (f : Findings) (h : HeldSource) (before : List ℕ) → h.is_read ≡ false → ¬ (IsGoodAfter f 0 h (Some before) None)
+
+-- the last good text stands for a source that can't be read, and for no source without an error
+pub record StandInRow : Type 0 where
+  pub unread : (f : Findings) (h : HeldSource) (text : List ℕ) → h.is_read ≡ false → StandsIn f 0 h (Some text) text
+  pub not_older : (f : Findings) (h : HeldSource) (text : List ℕ) → ¬ (HasError f h 0) → text ≢ h.standing.items → ¬ (StandsIn f 0 h (Some text) text)
+
+-- a diagnostic of a source that the first check has left out is shown. None of a checked source is that has no skipped module, and none of an older text
+pub record MissedRow : Type 0 where
+  pub left_out : (held set : List HeldSource) (d : Diagnostic) → d.source ≡ 0 → ¬ (IsSkip d) → HasTextOfNow held set 0 → AreMissedAt (silent []) held set (d ∷ []) 0 (d ∷ [])
+  pub not_checked : (d : Diagnostic) → ¬ (IsMissed (silent (0 ∷ [])) 0 d)
+  pub not_older : (f : Findings) (held set : List HeldSource) (told : List Diagnostic) (d : Diagnostic) → ¬ (HasTextOfNow held set 0) → ¬ (AreMissedAt f held set told 0 (d ∷ []))
