@@ -49,8 +49,8 @@ fn renamed(
     if from > first.from || first.from > source.len() {
         return Ok(None);
     }
-    let behind = Span { from: first.to, to };
-    let Some(after) = renamed(alloc, source, name, behind, rest)? else {
+    let tail = Span { from: first.to, to };
+    let Some(after) = renamed(alloc, source, name, tail, rest)? else {
         return Ok(None);
     };
     let front = &source[from..first.from];
@@ -81,17 +81,17 @@ fn probed_definition(
     let Some(front) = renamed(alloc, source, name, front, before)? else {
         return Ok(None);
     };
-    let behind = Span {
+    let tail = Span {
         from: part.to,
         to: layout.whole.to,
     };
-    let Some(behind) = renamed(alloc, source, name, behind, after)? else {
+    let Some(tail) = renamed(alloc, source, name, tail, after)? else {
         return Ok(None);
     };
     let probed = probed_part(alloc, &source[part.from..part.to])?;
     Ok(Some(joined(
         alloc,
-        &[front.as_slice(), probed.as_slice(), behind.as_slice()],
+        &[front.as_slice(), probed.as_slice(), tail.as_slice()],
     )?))
 }
 

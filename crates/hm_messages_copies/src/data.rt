@@ -4,7 +4,7 @@ use hm_messages_changes::{Local, Span};
 
 /// A name whose type is read.
 #[derive(Clone, Copy)]
-pub struct Asked {
+pub struct NamePart {
     /// The bytes of the name.
     pub part: Span,
     /// Whether the name binds or declares something at its place.

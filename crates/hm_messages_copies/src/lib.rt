@@ -12,7 +12,7 @@ mod spots;
 mod texts;
 
 pub use crate::changed::{with_function, with_variable};
-pub use crate::data::{Asked, Copied, Inside, Point, Scoped, Target};
+pub use crate::data::{Copied, Inside, NamePart, Point, Scoped, Target};
 pub use crate::definitions::{
     Declared, declarations_around, declared_in, is_definition, is_signed, name_of,
 };

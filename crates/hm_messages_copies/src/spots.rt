@@ -2,7 +2,7 @@
 ghost use Rattle.std.specs.Prelude.{◌≡◌, IfSome};
 ghost use Rattle.hm_messages_copies.specs.Changes.{part_of};
 
-use crate::data::{Asked, Copied, Point, Scoped};
+use crate::data::{Copied, NamePart, Point, Scoped};
 use crate::definitions::{Declared, clause_with, is_definition, is_signed, name_of, variable_of};
 use hm_messages_changes::{Span, bytes_of, local_of};
 use hm_messages_outline::{Lexed, Outline, Run, declaration_end, name_at, one, past_semicolons};
@@ -104,30 +104,30 @@ fn room_around(lexed: &Lexed<'_>, run: Run, token: usize) -> Option<Room> {
 }
 
 /// Returns where the type of a name is read, by the declarations that its token is in.
-pub fn spot_of(lexed: &Lexed<'_>, around: &[Declared], token: usize, asked: Asked) -> Option<Spot>
-    ensures { IfSome result (λ s. part_of s.point ≡ asked.part) }
+pub fn spot_of(lexed: &Lexed<'_>, around: &[Declared], token: usize, name: NamePart) -> Option<Spot>
+    ensures { IfSome result (λ s. part_of s.point ≡ name.part) }
 {
     let last = around.last()?;
     let run = last.run;
     let depth = around.len();
-    let byte = asked.part.from;
-    if asked.binds || !is_definition(lexed.outline, run) {
+    let byte = name.part.from;
+    if name.binds || !is_definition(lexed.outline, run) {
         if is_declared_name(lexed, *last, token) {
             return Some(Spot {
-                point: Point::Variable(asked.part, lexed.end(run), Scoped::After),
+                point: Point::Variable(name.part, lexed.end(run), Scoped::After),
                 depth: depth.saturating_sub(1),
                 byte,
             });
         }
         let room = room_around(lexed, run, token)?;
         return Some(Spot {
-            point: Point::Variable(asked.part, room.at, room.scoped),
+            point: Point::Variable(name.part, room.at, room.scoped),
             depth,
             byte,
         });
     }
     Some(Spot {
-        point: Point::Expression(asked.part),
+        point: Point::Expression(name.part),
         depth,
         byte,
     })

@@ -140,8 +140,8 @@ fn renamed(
     let Some(front) = bytes_of(source, front) else {
         return Ok(None);
     };
-    let behind = Span { from: first.to, to };
-    let Some(after) = renamed(alloc, source, name, behind, rest)? else {
+    let tail = Span { from: first.to, to };
+    let Some(after) = renamed(alloc, source, name, tail, rest)? else {
         return Ok(None);
     };
     let name = name.as_bytes();
@@ -181,15 +181,15 @@ pub(crate) fn copy(
     let Some(front) = renamed(alloc, source, local.name, front, local.before)? else {
         return Ok(None);
     };
-    let behind = Span {
+    let tail = Span {
         from: inner.to,
         to: definition.whole.to,
     };
-    let Some(behind) = renamed(alloc, source, local.name, behind, local.after)? else {
+    let Some(tail) = renamed(alloc, source, local.name, tail, local.after)? else {
         return Ok(None);
     };
     let mut made = joined(alloc, b"let { ", front.as_slice(), text)?;
-    made.extend_from_slice(behind.as_slice())?;
+    made.extend_from_slice(tail.as_slice())?;
     made.extend_from_slice(b" } in ")?;
     made.extend_from_slice(local.name.as_bytes())?;
     Ok(Some(made))

@@ -6,7 +6,7 @@ ghost use Rattle.hm_messages_details.specs.Firsts.{IsAt, IsFirst, IsFirstAt, fir
 ghost use Rattle.hm_messages_details.specs.Parts.{IsFirstIn, a_list, part_of};
 
 use crate::parts::{Part, parts_of};
-use crate::written::behind;
+use crate::written::after_qualifier;
 use hm_lex::Place;
 use hm_names::{Fault, LentNames, add_pattern, add_patterns};
 use hm_scope_resolve::{add_names, binding_names, constructor_names, signed_names, type_names};
@@ -24,7 +24,7 @@ pub(crate) fn is_at(fault: &Fault, name: &Name) -> bool
         Some(qualifier) => Some(qualifier.as_str()),
         None => None,
     };
-    match behind(fault.name.as_str(), qualifier) {
+    match after_qualifier(fault.name.as_str(), qualifier) {
         Some(text) => text == name.as_str(),
         None => false,
     }

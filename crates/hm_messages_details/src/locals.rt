@@ -102,8 +102,8 @@ fn near_within<'a>(
     ensures { IfOk result (λ found. IfSome found (λ x. Contains (locals_of (open_in scopes.now)) x.now × AreNear fault.now.name x.now)) }
 {
     let others = TextSet::new(alloc);
-    'scopes: for behind in 0..scopes.len() {
-        let place = scopes.len() - 1 - behind;
+    'scopes: for from_end in 0..scopes.len() {
+        let place = scopes.len() - 1 - from_end;
         let scope = scopes[place];
         let names = variables_of(alloc, scope)?;
         match near_among(alloc, fault.name.as_str(), names.as_slice(), &others)? {

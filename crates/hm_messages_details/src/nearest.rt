@@ -6,7 +6,7 @@ ghost use Rattle.hm_messages_details.specs.Nearness.{AreNear, IsSmallForm, begin
 ghost use Rattle.hm_messages_details.specs.Roles.{CanStand, CanStandInCapitals};
 
 use crate::role::Role;
-use crate::written::behind;
+use crate::written::after_qualifier;
 use hm_names::Namespace;
 use hm_scope_tables::{Binding, EntityRef};
 use std::alloc::{AllocError, Global};
@@ -115,7 +115,7 @@ fn is_near_pair(
 ) -> Result<bool, AllocError>
     ensures { IfOk result (λ is. is ≡ true → IsNearPair role name.now pair.now) }
 {
-    let Some(text) = behind(name, pair.qualifier()) else {
+    let Some(text) = after_qualifier(name, pair.qualifier()) else {
         return Ok(false);
     };
     if can_stand_in_capitals(role, pair.space()) {
@@ -160,7 +160,7 @@ fn is_named(name: &str, space: Namespace, pair: &Binding<'_>) -> bool
     if pair.space() != space {
         return false;
     }
-    match behind(name, pair.qualifier()) {
+    match after_qualifier(name, pair.qualifier()) {
         Some(text) => text == pair.text(),
         None => false,
     }

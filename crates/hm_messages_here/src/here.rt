@@ -16,8 +16,8 @@ use crate::without::Whole;
 use crate::written::WrittenName;
 use hm_messages_changes::{Local, SourceRange, Span, part_of};
 use hm_messages_copies::{
-    Asked, Copied, Declared, Inside, Point, Spot, Target, copies_of, declarations_around, spot_of,
-    with_function, with_heads,
+    Copied, Declared, Inside, NamePart, Point, Spot, Target, copies_of, declarations_around,
+    spot_of, with_function, with_heads,
 };
 use hm_messages_outline::{Lexed, declarations_of, number_at, one};
 use hm_messages_trials::read;
@@ -150,16 +150,16 @@ fn type_of_token(
     question: &Question<'_>,
     lexed: &Lexed<'_>,
     token: usize,
-    asked: Asked,
+    name: NamePart,
 ) -> Result<Option<TypeHere>, AllocError>
     ensures { IfOk result (λ found. IfSome found (λ t. HasTypeHere question.now.source.now question.now.name.now (map arc_value question.now.imports.now)
-        asked.part (string_bytes t.definition) (string_bytes t.own) (string_bytes t.here))) }
+        name.part (string_bytes t.definition) (string_bytes t.own) (string_bytes t.here))) }
 {
     let Some(body) = declarations_of(lexed, question.name) else {
         return Ok(None);
     };
     let around = declarations_around(alloc, lexed, body, token)?;
-    let Some(spot) = spot_of(lexed, around.as_slice(), token, asked) else {
+    let Some(spot) = spot_of(lexed, around.as_slice(), token, name) else {
         return Ok(None);
     };
     Ok(type_around(alloc, question, lexed, around.as_slice(), spot)?)
@@ -211,12 +211,12 @@ pub fn type_here(
     if whole.hides(part.from) {
         return Ok(None);
     }
-    let asked = Asked {
+    let named = NamePart {
         part: Span {
             from: part.from,
             to: part.to,
         },
         binds: name.binds,
     };
-    Ok(type_of_token(alloc, question, &lexed, token, asked)?)
+    Ok(type_of_token(alloc, question, &lexed, token, named)?)
 }

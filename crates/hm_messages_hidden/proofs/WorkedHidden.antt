@@ -119,7 +119,7 @@ good_here source at within h = record {
   removed = none (IsReplaced source (reported_by Unbound (codes "y") ∷ []));
   «module» = module_A;
   spelled = record { modules = module_A ∷ []; read = h; among = (0, omega arith, refl); named = refl };
-  asked = refl;
+  of_imports = refl;
   right = good_A;
   later = tt;
 }

@@ -77,6 +77,6 @@ pub record IsVerdictBeyond (source name : List ℕ) (fs : List Interface) (fault
   pub removed : All (IsReplaced source faults) definitions
   pub «module» : Module
   pub spelled : IsModuleIn (replaced source at names definitions) name «module»
-  pub asked : AreImportsOf «module» fs
+  pub of_imports : AreImportsOf «module» fs
   pub right : IsVerdict «module» (prelude_interface ∷ fs) verdict
   pub later : AreLater (place_after (take at source)) verdict

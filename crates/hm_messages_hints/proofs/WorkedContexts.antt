@@ -26,7 +26,7 @@ not_ended (suc (suc (suc (suc (suc n))))) l e = absurd (omega (arith, l))
 pub worked_types : TypeRow
 worked_types = record {
   within = record { start = 0; within = omega arith; begun = refl; rest = declared_rest };
-  behind = λ h.
+  after = λ h.
       let first : h.start ≡ 1 = not_ended h.start h.within h.begun in
       let rest : is_of_type Semicolon ≡ true = subst (λ n. All (λ s. is_of_type s ≡ true) (drop (n + 1) ended)) first h.rest 1 Semicolon (omega arith) in
       false≢true rest;
@@ -62,16 +62,16 @@ no_semicolon (suc (suc (suc zero))) e = let numbers : 0 ≡ 1 = ap kind e in ome
 no_semicolon (suc (suc (suc (suc zero)))) e = let numbers : 0 ≡ 1 = ap kind e in omega (arith, numbers)
 no_semicolon (suc (suc (suc (suc (suc n))))) e = let numbers : 0 ≡ 1 = ap kind e in omega (arith, numbers)
 
-abbrev behind_arrow : List Symbol
-behind_arrow = Of ∷ LeftBrace ∷ Var ∷ Arrow ∷ Var ∷ []
+abbrev after_arrow : List Symbol
+after_arrow = Of ∷ LeftBrace ∷ Var ∷ Arrow ∷ Var ∷ []
 
-arrow : (n : ℕ) → n ≡ 1 → All (λ s. is_of_pattern s ≡ true) (drop (n + 1) behind_arrow) → false ≡ true
-arrow n first h = subst (λ m. All (λ s. is_of_pattern s ≡ true) (drop (m + 1) behind_arrow)) first h 1 Arrow (omega arith)
+arrow : (n : ℕ) → n ≡ 1 → All (λ s. is_of_pattern s ≡ true) (drop (n + 1) after_arrow) → false ≡ true
+arrow n first h = subst (λ m. All (λ s. is_of_pattern s ≡ true) (drop (m + 1) after_arrow)) first h 1 Arrow (omega arith)
 
 pub worked_alternatives : AlternativeRow
 worked_alternatives = record {
   within = record { of_case = refl; brace = refl; start = 1; within = omega arith; begun = inl refl; rest = in_pattern };
-  behind = λ h. ⊎_elim (λ first. false≢true (arrow h.start first h.rest)) (λ e. no_semicolon h.start e) h.begun;
+  after = λ h. ⊎_elim (λ first. false≢true (arrow h.start first h.rest)) (λ e. no_semicolon h.start e) h.begun;
 }
 
 no_bracket : (j : ℕ) → 1 < j → IsOpen (Let ∷ LeftBrace ∷ []) j → ⊥

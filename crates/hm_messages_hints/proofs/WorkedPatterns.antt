@@ -35,7 +35,7 @@ at_brace (suc (suc (suc (suc n)))) l e = absurd (omega (arith, l))
 pub worked_patterns : PatternsRow
 worked_patterns = record {
   within = record { start = 0; within = omega arith; begun = refl; rest = applied_rest };
-  behind = λ h.
+  after = λ h.
       let first : h.start ≡ 0 = at_brace h.start h.within h.begun in
       let rest : is_of_pattern Equals ≡ true = subst (λ n. All (λ s. is_of_pattern s ≡ true) (drop (n + 1) defined)) first h.rest 1 Equals (omega arith) in
       false≢true rest;
@@ -67,12 +67,12 @@ at_bar (suc (suc (suc (suc (suc n))))) l e = absurd (omega (arith, l))
 
 pub worked_guards : GuardRow
 worked_guards = record {
-  within = record { bar = 2; behind = omega arith; within = omega arith; begun = refl; patterns = head_is; rest = one_guard };
-  behind = λ h.
+  within = record { bar = 2; after = omega arith; within = omega arith; begun = refl; patterns = head_is; rest = one_guard };
+  after = λ h.
       let second : h.bar ≡ 2 = at_bar h.bar h.within h.begun in
       let rest : ends_guard Equals ≡ false = subst (λ n. All (λ s. ends_guard s ≡ false) (drop (n + 1) guarded_before)) second h.rest 1 Equals (omega arith) in
       false≢true (sym rest);
-  inside = λ h. omega (arith, h.behind, h.within);
+  inside = λ h. omega (arith, h.after, h.within);
 }
 
 no_right : (n : ℕ) → n < 3 → begins_right (at (Data ∷ Con ∷ Var ∷ []) n) ≡ true → ⊥
@@ -83,7 +83,7 @@ no_right (suc (suc (suc n))) l e = omega (arith, l)
 
 pub worked_rights : RightRow
 worked_rights = record {
-  within = record { mark = 2; behind = omega arith; within = omega arith; begun = refl };
+  within = record { mark = 2; after = omega arith; within = omega arith; begun = refl };
   before = λ h. no_right h.mark h.within h.begun;
 }
 

@@ -177,7 +177,7 @@ pub record IsInType (begins : Symbol → Bool) (symbols : List Symbol) : Type 0 
 -- a right side begins at this symbol or after it
 pub record IsRightOf (symbols : List Symbol) (start : ℕ) : Type 0 where
   pub mark : ℕ
-  pub behind : start ≤ mark
+  pub after : start ≤ mark
   pub within : mark < length symbols
   pub begun : begins_right (at symbols mark) ≡ true
 
@@ -198,7 +198,7 @@ pub record IsInPatterns (symbols : List Symbol) : Type 0 where
 -- the symbols end with a guard, or a part of one, after the patterns of a declaration or of an alternative and after the bracket with this number
 pub record IsInGuard (symbols : List Symbol) (bracket : ℕ) : Type 0 where
   pub bar : ℕ
-  pub behind : bracket < bar
+  pub after : bracket < bar
   pub within : bar < length symbols
   pub begun : at symbols bar ≡ Bar
   pub patterns : IsInPatterns (take bar symbols)

@@ -17,7 +17,7 @@ ended = Var ∷ OfType ∷ Con ∷ Semicolon ∷ Var ∷ []
 -- the constructor's arguments are within a type. A name after a signature's `;` isn't
 pub record TypeRow : Type 0 where
   pub within : IsInType begins_type declared
-  pub behind : ¬ (IsInType begins_type ended)
+  pub after : ¬ (IsInType begins_type ended)
 
 -- `if x then 1`, and the same with `else`
 pub record ElseRow : Type 0 where
@@ -27,7 +27,7 @@ pub record ElseRow : Type 0 where
 -- `of { C x` is within a pattern, `of { x -> y` isn't
 pub record AlternativeRow : Type 0 where
   pub within : IsInAlternative (Of ∷ LeftBrace ∷ Con ∷ Var ∷ []) 1
-  pub behind : ¬ (IsInAlternative (Of ∷ LeftBrace ∷ Var ∷ Arrow ∷ Var ∷ []) 1)
+  pub after : ¬ (IsInAlternative (Of ∷ LeftBrace ∷ Var ∷ Arrow ∷ Var ∷ []) 1)
 
 -- `if x`, and the same with `then`
 pub record ThenRow : Type 0 where
@@ -45,7 +45,7 @@ defined = LeftBrace ∷ Var ∷ Equals ∷ Var ∷ []
 -- the arguments of a definition are patterns, and what is after its `=` isn't
 pub record PatternsRow : Type 0 where
   pub within : IsInPatterns applied
-  pub behind : ¬ (IsInPatterns defined)
+  pub after : ¬ (IsInPatterns defined)
 
 -- `{ f | x`
 abbrev pub guarded : List Symbol
@@ -58,7 +58,7 @@ guarded_before = LeftBrace ∷ Var ∷ Bar ∷ Var ∷ Equals ∷ []
 -- a guard ends at its `=`. It isn't after a bracket within it
 pub record GuardRow : Type 0 where
   pub within : IsInGuard guarded 0
-  pub behind : ¬ (IsInGuard guarded_before 0)
+  pub after : ¬ (IsInGuard guarded_before 0)
   pub inside : ¬ (IsInGuard guarded 3)
 
 -- in `data T a` no right side has begun, and in `data T = C a` it has

@@ -172,8 +172,8 @@ fn have_no_else(symbols: &[Symbol]) -> bool
 pub(crate) fn type_begins(symbols: &[Symbol]) -> bool
     ensures { result ≡ true → IsInType begins_type symbols.now }
 {
-    for behind in 0..symbols.len() {
-        let at = symbols.len() - 1 - behind;
+    for from_end in 0..symbols.len() {
+        let at = symbols.len() - 1 - from_end;
         if begins_type(symbols[at]) {
             return are_of_type(&symbols[at + 1..]);
         }
@@ -185,8 +185,8 @@ pub(crate) fn type_begins(symbols: &[Symbol]) -> bool
 pub(crate) fn constructors_begin(symbols: &[Symbol]) -> bool
     ensures { result ≡ true → IsInType begins_constructors symbols.now }
 {
-    for behind in 0..symbols.len() {
-        let at = symbols.len() - 1 - behind;
+    for from_end in 0..symbols.len() {
+        let at = symbols.len() - 1 - from_end;
         if begins_constructors(symbols[at]) {
             return are_of_type(&symbols[at + 1..]);
         }
@@ -210,8 +210,8 @@ fn right_begins(symbols: &[Symbol], start: usize) -> bool
 pub(crate) fn right_type_begins(symbols: &[Symbol]) -> bool
     ensures { result ≡ true → (t : IsInType begins_type symbols.now) × IsRightOf symbols.now t.start }
 {
-    for behind in 0..symbols.len() {
-        let at = symbols.len() - 1 - behind;
+    for from_end in 0..symbols.len() {
+        let at = symbols.len() - 1 - from_end;
         if begins_type(symbols[at]) {
             if !right_begins(symbols, at) {
                 return false;
@@ -226,8 +226,8 @@ pub(crate) fn right_type_begins(symbols: &[Symbol]) -> bool
 pub(crate) fn right_newtype_begins(symbols: &[Symbol]) -> bool
     ensures { result ≡ true → (t : IsInType begins_newtype symbols.now) × IsRightOf symbols.now t.start }
 {
-    for behind in 0..symbols.len() {
-        let at = symbols.len() - 1 - behind;
+    for from_end in 0..symbols.len() {
+        let at = symbols.len() - 1 - from_end;
         if begins_newtype(symbols[at]) {
             if !right_begins(symbols, at) {
                 return false;
@@ -242,8 +242,8 @@ pub(crate) fn right_newtype_begins(symbols: &[Symbol]) -> bool
 pub(crate) fn has_declaration(symbols: &[Symbol]) -> bool
     ensures { result ≡ true → HasDeclaration symbols.now }
 {
-    for behind in 0..symbols.len() {
-        let at = symbols.len() - 1 - behind;
+    for from_end in 0..symbols.len() {
+        let at = symbols.len() - 1 - from_end;
         if begins_declaration(symbols[at]) {
             return have_no_module(&symbols[at + 1..]);
         }
@@ -255,8 +255,8 @@ pub(crate) fn has_declaration(symbols: &[Symbol]) -> bool
 pub(crate) fn patterns_begin(symbols: &[Symbol]) -> bool
     ensures { result ≡ true → IsInPatterns symbols.now }
 {
-    for behind in 0..symbols.len() {
-        let at = symbols.len() - 1 - behind;
+    for from_end in 0..symbols.len() {
+        let at = symbols.len() - 1 - from_end;
         if begins_patterns(symbols[at]) {
             return are_of_pattern(&symbols[at + 1..]);
         }
@@ -268,8 +268,8 @@ pub(crate) fn patterns_begin(symbols: &[Symbol]) -> bool
 pub(crate) fn guard_begins(symbols: &[Symbol], bracket: usize) -> bool
     ensures { result ≡ true → IsInGuard symbols.now bracket }
 {
-    for behind in 0..symbols.len() {
-        let at = symbols.len() - 1 - behind;
+    for from_end in 0..symbols.len() {
+        let at = symbols.len() - 1 - from_end;
         if symbols[at].is(Symbol::Bar) {
             if at <= bracket || !patterns_begin(&symbols[..at]) {
                 return false;
@@ -284,8 +284,8 @@ pub(crate) fn guard_begins(symbols: &[Symbol], bracket: usize) -> bool
 pub(crate) fn without_then(symbols: &[Symbol]) -> Option<usize>
     ensures { IfSome result (HasNoThen symbols.now) }
 {
-    for behind in 0..symbols.len() {
-        let at = symbols.len() - 1 - behind;
+    for from_end in 0..symbols.len() {
+        let at = symbols.len() - 1 - from_end;
         if symbols[at].is(Symbol::If) {
             return if have_no_then(&symbols[at + 1..]) {
                 Some(at)
@@ -299,11 +299,11 @@ pub(crate) fn without_then(symbols: &[Symbol]) -> Option<usize>
 
 /// Returns the number of the last `if`, if it is after the bracket with this number and no `else` follows it.
 pub(crate) fn without_else(symbols: &[Symbol], bracket: usize) -> Option<usize>
-    ensures behind { IfSome result (λ at. bracket < at) }
+    ensures after { IfSome result (λ at. bracket < at) }
     ensures open { IfSome result (HasNoElse symbols.now) }
 {
-    for behind in 0..symbols.len() {
-        let at = symbols.len() - 1 - behind;
+    for from_end in 0..symbols.len() {
+        let at = symbols.len() - 1 - from_end;
         if symbols[at].is(Symbol::If) {
             return if at > bracket && have_no_else(&symbols[at + 1..]) {
                 Some(at)
@@ -347,8 +347,8 @@ pub(crate) fn alternative_begins(symbols: &[Symbol], bracket: usize) -> bool
     if !holds_alternatives(symbols, bracket) {
         return false;
     }
-    for behind in 0..symbols.len().saturating_sub(bracket) {
-        let at = symbols.len() - 1 - behind;
+    for from_end in 0..symbols.len().saturating_sub(bracket) {
+        let at = symbols.len() - 1 - from_end;
         if precedes_alternative(symbols, bracket, at) {
             return are_of_pattern(&symbols[at + 1..]);
         }

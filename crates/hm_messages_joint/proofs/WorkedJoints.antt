@@ -53,10 +53,10 @@ worked_both = record {
 
 untyped : (source name : List ℕ) (fs : List Interface) (m : Module) (found : List Fault) (f : Fault) → HasModules source (m ∷ []) → m.header.name.text ≡ name
     → AreImportsOf m fs → IsVerdict m (prelude_interface ∷ fs) (Faulty found) → Contains found f → f.kind ≡ Untyped → IsUntypedIn source name fs f.name
-untyped source name fs m found f h named asked right there kind = record {
+untyped source name fs m found f h named of_imports right there kind = record {
   «module» = m;
   spelled = record { modules = m ∷ []; read = h; among = (0, omega arith, refl); named = named };
-  asked = asked;
+  of_imports = of_imports;
   verdict = Faulty found;
   right = right;
   untyped = (f, there, (kind, refl));

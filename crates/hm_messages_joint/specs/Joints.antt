@@ -68,7 +68,7 @@ HasFaultOf definition (Verdict.Faulty found) = HasFaultIn definition found
 pub record IsUntypedIn (source name : List ℕ) (fs : List Interface) (definition : List ℕ) : Type 0 where
   pub «module» : Module
   pub spelled : IsModuleIn source name «module»
-  pub asked : AreImportsOf «module» fs
+  pub of_imports : AreImportsOf «module» fs
   pub verdict : Verdict
   pub right : IsVerdict «module» (prelude_interface ∷ fs) verdict
   pub untyped : HasFaultOf definition verdict

@@ -5,12 +5,12 @@ use Rattle.hm_messages_excerpts.specs.Excerpts.{IsPlaceIn, IsRestOfLine}
 use Rattle.hm_messages_json.specs.Edits.{Changed}
 
 -- the place after so many bytes on the line
-abbrev pub behind : Place → ℕ → Place
-behind p n = record { line = p.line; column = p.column + n }
+abbrev pub place_after : Place → ℕ → Place
+place_after p n = record { line = p.line; column = p.column + n }
 
 -- a text in place of so many bytes. The checker hasn't accepted the source with it
 abbrev pub rewrite : Place → ℕ → List ℕ → Changed
-rewrite p n text = record { start = p; end = behind p n; text = text; checked = false }
+rewrite p n text = record { start = p; end = place_after p n; text = text; checked = false }
 
 -- this is the only change, or there is none because the column of its end has more than 32 bits
 pub data IsWritten (p : Place) (n : ℕ) (text : List ℕ) (changes : List Changed) : Type 0 where

@@ -1,7 +1,7 @@
 //! Texts in place of others.
 ghost use Rattle.std.specs.Prelude.{◌≡◌, ◌≤◌, ◌++◌, ◌+◌, ℕ, List, IfNone, IfOk, IfSome, length, map};
 ghost use Rattle.hm_messages_json.specs.Edits.{changed_of};
-ghost use Rattle.hm_messages_rewrites.specs.Rewrites.{IsRewritten, IsWritten, behind};
+ghost use Rattle.hm_messages_rewrites.specs.Rewrites.{IsRewritten, IsWritten, place_after};
 
 use hm_lex::Place;
 use hm_messages_excerpts::SourceLines;
@@ -9,8 +9,8 @@ use hm_messages_json::Change;
 use std::alloc::{AllocError, Global};
 
 /// Returns the place after so many bytes on the line, if its column has 32 bits.
-fn behind(place: Place, count: usize) -> Option<Place>
-    ensures some { IfSome result (λ end. end ≡ behind place count) }
+fn place_after(place: Place, count: usize) -> Option<Place>
+    ensures some { IfSome result (λ end. end ≡ place_after place count) }
     ensures none { IfNone result (4294967296 ≤ place.column + count) }
 {
     let count = u32::try_from(count).ok()?;
@@ -38,7 +38,7 @@ pub(crate) fn written(
 ) -> Result<Vec<Change>, AllocError>
     ensures { IfOk result (λ changes. IsWritten place count text.now (map changed_of changes.items)) }
 {
-    let Some(end) = behind(place, count) else {
+    let Some(end) = place_after(place, count) else {
         return Ok(Vec::new(alloc));
     };
     let mut changes = Vec::new(alloc);

@@ -90,7 +90,7 @@ of_good : (source : List ℕ) (names : List (List ℕ)) → HasModules source (m
 of_good source names h = record {
   «module» = module_A;
   spelled = record { modules = module_A ∷ []; read = h; among = (0, omega arith, refl); named = refl };
-  asked = refl;
+  of_imports = refl;
   verdict = Good interface_A;
   right = good_A;
   typed = tt;

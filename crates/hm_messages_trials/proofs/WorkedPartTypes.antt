@@ -132,7 +132,7 @@ here : (source : List ℕ) → HasModules source (module_A ∷ []) → ExportsIn
 here source h = record {
   «module» = module_A;
   spelled = record { modules = module_A ∷ []; read = h; among = (0, omega arith, refl); named = refl };
-  asked = refl;
+  of_imports = refl;
   exports = interface_A;
   right = good_A;
   exported = record { entry = entry_x character; listed = (0, omega arith, refl); named = refl; scheme_is = refl };
@@ -163,7 +163,7 @@ good_here : (source : List ℕ) → HasModules source (module_A ∷ []) → IsGo
 good_here source h = record {
   «module» = module_A;
   spelled = record { modules = module_A ∷ []; read = h; among = (0, omega arith, refl); named = refl };
-  asked = refl;
+  of_imports = refl;
   verdict = Good interface_A;
   right = good_A;
   good = tt;

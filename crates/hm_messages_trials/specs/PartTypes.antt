@@ -29,7 +29,7 @@ pub record IsExported (exports : Interface) (variable : List ℕ) (scheme : Type
 pub record ExportsIn (source name : List ℕ) (fs : List Interface) (variable : List ℕ) (scheme : TypeScheme) : Type 0 where
   pub «module» : Module
   pub spelled : IsModuleIn source name «module»
-  pub asked : AreImportsOf «module» fs
+  pub of_imports : AreImportsOf «module» fs
   pub exports : Interface
   pub right : IsVerdict «module» (prelude_interface ∷ fs) (Good exports)
   pub exported : IsExported exports variable scheme

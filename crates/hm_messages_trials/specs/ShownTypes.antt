@@ -17,7 +17,7 @@ use Rattle.hm_messages_type_names.specs.TypeNames.{IsTypeName}
 pub record ExportsNames (source name : List ℕ) (fs : List Interface) (names : List NamedType) : Type 0 where
   pub «module» : Module
   pub spelled : IsModuleIn source name «module»
-  pub asked : AreImportsOf «module» fs
+  pub of_imports : AreImportsOf «module» fs
   pub exports : Interface
   pub right : IsVerdict «module» (prelude_interface ∷ fs) (Good exports)
   pub each : All (IsTypeName «module» (prelude_interface ∷ fs) name exports) names

@@ -50,7 +50,7 @@ IsGood (Faulty found) = ⊥
 pub record IsGoodIn (source name : List ℕ) (fs : List Interface) : Type 0 where
   pub «module» : Module
   pub spelled : IsModuleIn source name «module»
-  pub asked : AreImportsOf «module» fs
+  pub of_imports : AreImportsOf «module» fs
   pub verdict : Verdict
   pub right : IsVerdict «module» (prelude_interface ∷ fs) verdict
   pub good : IsGood verdict

@@ -47,7 +47,7 @@ pub record IsSignedIn (source name variable : List ℕ) : Type 0 where
 pub record HasTypesIn (source : List ℕ) (name : List ℕ) (fs : List Interface) (names : List (List ℕ)) : Type 0 where
   pub «module» : Module
   pub spelled : IsModuleIn source name «module»
-  pub asked : AreImportsOf «module» fs
+  pub of_imports : AreImportsOf «module» fs
   pub verdict : Verdict
   pub right : IsVerdict «module» (prelude_interface ∷ fs) verdict
   pub typed : AreTyped names verdict

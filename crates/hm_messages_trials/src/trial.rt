@@ -91,7 +91,7 @@ pub fn judged(
 ) -> Result<Option<Outcome>, AllocError>
     ensures spelled { IfOk result (λ found. IfSome found (λ o. IsModuleIn changed.now question.now.name.now o.«module»)) }
     ensures imports { IfOk result (λ found. IfSome found (λ o. o.imports ≡ map arc_value question.now.imports.now)) }
-    ensures asked { IfOk result (λ found. IfSome found (λ o. AreImportsOf o.«module» (map arc_value question.now.imports.now))) }
+    ensures of_imports { IfOk result (λ found. IfSome found (λ o. AreImportsOf o.«module» (map arc_value question.now.imports.now))) }
 {
     let Some(module) = module_in(alloc, changed, question.name)? else {
         return Ok(None);

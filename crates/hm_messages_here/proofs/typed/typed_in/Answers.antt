@@ -23,7 +23,7 @@ returns-in-Good-clause-names c =
     let o = c.in-Some.outcome in
     let exports = c.deref.result.now in
     let spelled : IsModuleIn c.args.changed.now name o.«module» = search rules in
-    let asked : AreImportsOf o.«module» fs = search rules in
+    let of_imports : AreImportsOf o.«module» fs = search rules in
     let imports : o.imports ≡ fs = search rules in
     let own : IsVerdict o.«module» (prelude_interface ∷ o.imports) (Good exports) = search rules in
     let right : IsVerdict o.«module» (prelude_interface ∷ fs) (Good exports) = subst (λ (l : List Interface). IsVerdict o.«module» (prelude_interface ∷ l) (Good exports)) imports own in
@@ -32,7 +32,7 @@ returns-in-Good-clause-names c =
     (λ t each. record {
       «module» = o.«module»;
       spelled = spelled;
-      asked = asked;
+      of_imports = of_imports;
       exports = exports;
       right = right;
       each = All-map (IsTypeName o.«module» (prelude_interface ∷ fs) name exports) alias_of t.aliases.items

@@ -25,7 +25,7 @@ returns c =
     let removed : All (IsReplaced source faults) change.replaced.now = search rules in
     let spelled : IsModuleIn c.as_slice.result.now name o.«module» = search rules in
     let imports : o.imports ≡ fs = search rules in
-    let asked : AreImportsOf o.«module» fs = search rules in
+    let of_imports : AreImportsOf o.«module» fs = search rules in
     let right : IsVerdict o.«module» (prelude_interface ∷ o.imports) o.verdict = search rules in
     let later : AreLater c.place_of_byte-end.result (verdict_of c.verdict.result.now) = search rules in
     record {
@@ -37,7 +37,7 @@ returns c =
       removed = removed;
       «module» = o.«module»;
       spelled = subst (λ (s : List ℕ). IsModuleIn s name o.«module») text spelled;
-      asked = asked;
+      of_imports = of_imports;
       right = subst (λ (l : List Interface). IsVerdict o.«module» (prelude_interface ∷ l) o.verdict) imports right;
       later = subst (λ (p : Place). AreLater p o.verdict) c.place_of_byte-end.ensures (subst (λ (v : Verdict). AreLater c.place_of_byte-end.result v) c.verdict.ensures.value later);
     }

@@ -5,7 +5,7 @@ use Rattle.hm_messages_hints.proofs.contexts.alternative_begins.Goals as goal
 
 pub returns-then-precedes_alternative : goal.returns-then-precedes_alternative
 returns-then-precedes_alternative c e =
-    let start : ℕ = length c.args.symbols.now - 1 - c.loop-behind.behind in
+    let start : ℕ = length c.args.symbols.now - 1 - c.loop-from_end.from_end in
     let holds : c.holds_alternatives.result ≡ true = search rules in
     let within : c.args.bracket ≤ start = search rules in
     record {

@@ -8,7 +8,7 @@ use Rattle.hm_messages_hints.proofs.contexts.has_declaration.Goals as goal
 
 pub returns-then-begins_declaration : goal.returns-then-begins_declaration
 returns-then-begins_declaration c e =
-    let at : ℕ = length c.args.symbols.now - 1 - c.loop-behind.behind in
+    let at : ℕ = length c.args.symbols.now - 1 - c.loop-from_end.from_end in
     let within : at < length c.args.symbols.now = search rules in
     record {
       start = at;

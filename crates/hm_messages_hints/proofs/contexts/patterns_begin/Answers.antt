@@ -7,7 +7,7 @@ use Rattle.hm_messages_hints.proofs.contexts.patterns_begin.Goals as goal
 
 pub returns-then-begins_patterns : goal.returns-then-begins_patterns
 returns-then-begins_patterns c e =
-    let at : ℕ = length c.args.symbols.now - 1 - c.loop-behind.behind in
+    let at : ℕ = length c.args.symbols.now - 1 - c.loop-from_end.from_end in
     let within : at < length c.args.symbols.now = search rules in
     record {
       start = at;

@@ -7,7 +7,7 @@ use Rattle.hm_messages_hints.proofs.contexts.right_newtype_begins.Goals as goal
 
 pub returns-then-begins_newtype : goal.returns-then-begins_newtype
 returns-then-begins_newtype c e =
-    let at : ℕ = length c.args.symbols.now - 1 - c.loop-behind.behind in
+    let at : ℕ = length c.args.symbols.now - 1 - c.loop-from_end.from_end in
     let within : at < length c.args.symbols.now = search rules in
     let right : IsRightOf c.args.symbols.now at = search rules in
     let part : IsInType begins_newtype c.args.symbols.now = record {

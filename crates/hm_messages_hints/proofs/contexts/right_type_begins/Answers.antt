@@ -7,7 +7,7 @@ use Rattle.hm_messages_hints.proofs.contexts.right_type_begins.Goals as goal
 
 pub returns-then-begins_type : goal.returns-then-begins_type
 returns-then-begins_type c e =
-    let at : ℕ = length c.args.symbols.now - 1 - c.loop-behind.behind in
+    let at : ℕ = length c.args.symbols.now - 1 - c.loop-from_end.from_end in
     let within : at < length c.args.symbols.now = search rules in
     let right : IsRightOf c.args.symbols.now at = search rules in
     let part : IsInType begins_type c.args.symbols.now = record {

@@ -23,7 +23,7 @@ returns-in-Good-clause-names c =
     let m = c.deref.result.now in
     let is : m ≡ o.«module» = search rules in
     let spelled : IsModuleIn c.args.changed.now name o.«module» = search rules in
-    let asked : AreImportsOf o.«module» fs = search rules in
+    let of_imports : AreImportsOf o.«module» fs = search rules in
     let imports : o.imports ≡ fs = search rules in
     let own : IsVerdict o.«module» (prelude_interface ∷ o.imports) (Good exports) = search rules in
     let right : IsVerdict o.«module» (prelude_interface ∷ fs) (Good exports) = subst (λ (l : List Interface). IsVerdict o.«module» (prelude_interface ∷ l) (Good exports)) imports own in
@@ -32,7 +32,7 @@ returns-in-Good-clause-names c =
     (λ t each. record {
       «module» = o.«module»;
       spelled = spelled;
-      asked = asked;
+      of_imports = of_imports;
       exports = exports;
       right = right;
       each = subst (λ (n : Module). All (IsTypeName n (prelude_interface ∷ fs) name exports) (map alias_of t.aliases.items)) is
