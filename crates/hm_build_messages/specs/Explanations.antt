@@ -119,7 +119,7 @@ ArePartTypes source name fs definition (Patterns first second) expected actual i
 ArePartTypes source name fs definition (insertion_mend insertion part) expected actual infinite = ⊥
 ArePartTypes source name fs definition (Wrapped constructor part) expected actual infinite = ⊥
 
--- the text tells what gives the definition a type, with this as the other place. A program gets its edits
+-- the text states what gives the definition a type, with this as the other place. A program gets its edits
 pub record IsMendStated (format : MessageFormat) (file source definition : List ℕ) (mend : Mend) (other : Place) (text : List ℕ) : Type 0 where
   pub changes : List Changed
   pub edits : HasChanges source mend changes
@@ -127,13 +127,13 @@ pub record IsMendStated (format : MessageFormat) (file source definition : List 
   pub means : IsSubjectOf source definition mend other subject
   pub stated : IsPartMessage format file source (first_part mend) (second_part mend) subject changes text
 
--- the text tells what gives the definition a type, or the two types of the part, with this as the other place
+-- the text states what gives the definition a type, or the two types of the part, with this as the other place
 pub data IsStatedOf (format : MessageFormat) (file source name : List ℕ) (fs : List Interface) (definition : List ℕ) (mend : Mend) (other : Place) (text : List ℕ) : Type 0 where
   by_mend : IsMendStated format file source definition mend other text → IsStatedOf format file source name fs definition mend other text
   by_types : (expected actual : List ℕ) (infinite : Bool) → ArePartTypes source name fs definition mend expected actual infinite
       → IsPartMessage format file source (first_part mend) None (mistyped definition other expected actual infinite) [] text → IsStatedOf format file source name fs definition mend other text
 
--- the note of a type fault tells what gives its definition a type, or the two types of the part, with places as readers count
+-- the note of a type fault states what gives its definition a type, or the two types of the part, with places as readers count
 pub record IsNote (format : MessageFormat) (file source name : List ℕ) (fs : List Interface) (f : Fault) (text : List ℕ) : Type 0 where
   pub untyped : f.kind ≡ Untyped
   pub mend : Mend
@@ -142,7 +142,7 @@ pub record IsNote (format : MessageFormat) (file source name : List ℕ) (fs : L
   pub columns_at : AreColumnsAt source (other_of mend) columns
   pub stated : IsStatedOf format file source name fs f.name mend (reader_place (other_of mend) columns) text
 
--- the note of a signature tells the type that the definition of a type fault has without it. A program gets the edit that writes this type in its place. If
+-- the note of a signature states the type that the definition of a type fault has without it. A program gets the edit that writes this type in its place. If
 -- the note leads, the module is good without the signature
 pub record IsSignatureNote (format : MessageFormat) (file source name : List ℕ) (fs : List Interface) (f : Fault) (leads : Bool) (text : List ℕ) : Type 0 where
   pub untyped : f.kind ≡ Untyped
@@ -183,7 +183,7 @@ pub data AreNotes (format : MessageFormat) (file source name : List ℕ) (fs : L
   following : IsCauseNote format file source name fs f text → AreNotes format file source name fs f text
   own_notes : AreOwnNotes format file source name fs f text → AreNotes format file source name fs f text
 
--- the last note of a fault says that the limit on trials is reached, or it is no text. The first truth value says whether a note told it before the fault,
+-- the last note of a fault says that the limit on trials is reached, or it is no text. The first truth value says whether a note has said it before the fault,
 -- the second whether one has said it after the fault. So it is said once
 abbrev pub IsLimitNote : MessageFormat → List ℕ → List ℕ → Fault → Bool → Bool → List ℕ → Type 0
 IsLimitNote format file source f false true text = IsMessage format file source f.place limit text
@@ -192,7 +192,7 @@ IsLimitNote format file source f true true text = text ≡ []
 IsLimitNote format file source f true false text = ⊥
 
 -- the message of a fault of which nothing else is known, and after it its notes, or nothing. A last note may tell that the limit on trials is reached.
--- Behind such a note no fault has notes
+-- After such a note no fault has notes
 pub record IsNoted (format : MessageFormat) (file source name : List ℕ) (fs : List Interface) (f : Fault) (before after : Bool) (text : List ℕ) : Type 0 where
   pub message : List ℕ
   pub notes : List ℕ
@@ -216,9 +216,9 @@ IsFaultStated format file source p status i f before after text =
 
 -- the text has a part for each element, in order, and no more. The truth value between two parts is the second of the one and the first of the other
 abbrev pub AreInTurn : {X : Type 0} → (X → Bool → Bool → List ℕ → Type 0) → List X → Bool → Bool → List ℕ → Type 0
-AreInTurn tells [] before after text = (after ≡ before) × (text ≡ [])
-AreInTurn tells (x ∷ xs) before after text =
-    (first : List ℕ) × (later : List ℕ) × (between : Bool) × tells x before between first × AreInTurn tells xs between after later × (text ≡ first ++ later)
+AreInTurn says [] before after text = (after ≡ before) × (text ≡ [])
+AreInTurn says (x ∷ xs) before after text =
+    (first : List ℕ) × (later : List ℕ) × (between : Bool) × says x before between first × AreInTurn says xs between after later × (text ≡ first ++ later)
 
 -- of each fault, in order, at its place of this source
 abbrev pub AreFaultsStated : MessageFormat → List (List ℕ) → List (List ℕ) → ℕ → ModuleSet → (ℕ → Status) → ℕ → List Fault → Bool → Bool → List ℕ → Type 0

@@ -7,10 +7,10 @@ use Rattle.hm_messages.specs.declared.heading.MessageFormat.{MessageFormat}
 
 -- a message of the fault, or none of none
 abbrev pub IsMessageOf : (Refusal → List ℕ → Type 0) → Option Refusal → Option (List ℕ) → Type 0
-IsMessageOf tells None None = ⊤
-IsMessageOf tells None (Some text) = ⊥
-IsMessageOf tells (Some fault) None = ⊥
-IsMessageOf tells (Some fault) (Some text) = tells fault text
+IsMessageOf says None None = ⊤
+IsMessageOf says None (Some text) = ⊥
+IsMessageOf says (Some fault) None = ⊥
+IsMessageOf says (Some fault) (Some text) = says fault text
 
 -- the message of the first fault of a source, counted from 0, if it has any
 abbrev pub IsFirstStated : MessageFormat → List (List ℕ) → List (List ℕ) → ℕ → Option (List ℕ) → Type 0

@@ -30,7 +30,7 @@ abbrev pub pair_of : JointPart → JointPart → Pair
 pair_of part (Expression range) = beside_expression part
 pair_of part (Pattern range) = beside_pattern part
 
--- the note of one part tells where it ends and where the other one begins, with places as readers count
+-- the note of one part states where it ends and where the other one begins, with places as readers count
 pub record IsJointNote (format : MessageFormat) (file source definition : List ℕ) (part other : JointPart) (text : List ℕ) : Type 0 where
   pub ends : Columns
   pub ends_at : AreColumnsAt source (range_of part).end ends

@@ -8,7 +8,7 @@ use Rattle.hm_messages_edits.specs.Spans.{IsSpanOf, IsSpanOfAny}
 use Rattle.hm_messages_json.specs.Edits.{Changed}
 use Rattle.hm_messages_json.specs.declared.positions.Span.{Span}
 
--- the text tells the subject where the part begins. A program gets the whole part, the other one if there are two, and the changes
+-- the text states the subject where the part begins. A program gets the whole part, the other one if there are two, and the changes
 pub record IsPartMessage (format : MessageFormat) (file source : List ℕ) (part : SourceRange) (second : Option SourceRange) (subject : Subject) (changes : List Changed) (text : List ℕ) : Type 0 where
   pub whole : Option Span
   pub whole_is : IsSpanOf part whole

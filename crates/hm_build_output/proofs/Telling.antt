@@ -112,9 +112,9 @@ refused_listed None sources refusal status text listing because is says l none =
 refused_listed (Some names) sources refusal status text listing because is says l none = subst (λ s. IsListed (map string_bytes names.items) sources s text listing) (sym is) (refusal, says, because, l)
 
 -- the listing of a build for the names of the options
-pub wanted_listing : (wanted : Option (Vec (String Global))) (names : Vec (String Global)) (slice : List (String Global)) (counts : List ℕ) (b : Build) (listing : List ℕ) → wanted ≡ Some names → slice ≡ names.items
+pub chosen_listing : (wanted : Option (Vec (String Global))) (names : Vec (String Global)) (slice : List (String Global)) (counts : List ℕ) (b : Build) (listing : List ℕ) → wanted ≡ Some names → slice ≡ names.items
     → ((origins : List ℕ) × AreOrigins counts origins × IsListing (file_of (map string_bytes slice) origins) (set_of b) (settlement b) listing)
     → IfSome wanted (λ names. (origins : List ℕ) × AreOrigins counts origins × IsListing (file_of (map string_bytes names.items) origins) (set_of b) (settlement b) listing)
-wanted_listing wanted names slice counts b listing is same l =
+chosen_listing wanted names slice counts b listing is same l =
     subst (λ w. IfSome w (λ names. (origins : List ℕ) × AreOrigins counts origins × IsListing (file_of (map string_bytes names.items) origins) (set_of b) (settlement b) listing)) (sym is)
     (subst (λ (s : List (String Global)). (origins : List ℕ) × AreOrigins counts origins × IsListing (file_of (map string_bytes s) origins) (set_of b) (settlement b) listing) same l)

@@ -13,7 +13,7 @@ use hm_store::Store;
 use std::alloc::{AllocError, Global};
 
 /// Returns what is written of a finished build with this text. `counts` has the number of modules of each source.
-#[tactic(auto, using(crate::proofs::Telling::wanted_listing))]
+#[tactic(auto, using(crate::proofs::Telling::chosen_listing))]
 pub(crate) fn finished_text(
     alloc: Global,
     store: &Store,

@@ -3,7 +3,7 @@ use Rattle.std.specs.Prelude.{ℕ, List, Option, map, option_map, string_bytes}
 use Rattle.hm_messages_json.specs.declared.message.Position.{Position}
 use Rattle.hm_messages_json.specs.declared.message.Range.{Range}
 use Rattle.hm_uses.specs.declared.name_kind.NameKind.{NameKind}
-use Rattle.hm_build_place_texts.specs.declared.found.Spot.{Spot}
+use Rattle.hm_build_place_texts.specs.declared.found.SourceSpot.{SourceSpot}
 use Rattle.hm_build_place_texts.specs.declared.found.Bound.{Bound}
 use Rattle.hm_build_place_texts.specs.declared.found.Bound.TheVariants as bound_cases
 use Rattle.hm_build_place_texts.specs.declared.found.DeclaredType.{DeclaredType}
@@ -77,7 +77,7 @@ pub record Facts : Type 0 where
 
 -- The facts of the program's values
 
-abbrev pub site_of : Spot → Site
+abbrev pub site_of : SourceSpot → Site
 site_of s = record { file = string_bytes s.file; position = s.position }
 
 abbrev pub binding_of : Bound → Binding

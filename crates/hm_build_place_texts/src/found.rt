@@ -5,7 +5,7 @@ use hm_uses::NameKind;
 
 /// A place of a source. If it isn't in the source, it has no position.
 #[derive(Debug, Drop)]
-pub struct Spot {
+pub struct SourceSpot {
     /// The name of the source's file, as it is shown.
     pub file: String,
     pub position: Option<Position>,
@@ -15,7 +15,7 @@ pub struct Spot {
 #[derive(Debug, Drop)]
 pub enum Bound {
     /// At this place.
-    At(Spot),
+    At(SourceSpot),
     /// In the module with this name, which isn't one of the sources.
     In(String),
     /// It is a prefix of qualified names.

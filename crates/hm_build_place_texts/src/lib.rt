@@ -10,6 +10,7 @@ mod prose;
 mod texts;
 
 pub use crate::found::{
-    Bound, DeclaredType, Definition, HereType, PlaceFound, PlaceItem, PlaceName, PlaceType, Spot,
+    Bound, DeclaredType, Definition, HereType, PlaceFound, PlaceItem, PlaceName, PlaceType,
+    SourceSpot,
 };
 pub use crate::texts::{PlaceFormat, place_text, refused_text};

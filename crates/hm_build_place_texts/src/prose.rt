@@ -5,7 +5,7 @@ ghost use Rattle.hm_build_place_texts.specs.Facts.{binding_of, declared_of, fact
 ghost use Rattle.hm_build_place_texts.specs.Prose.{binding_text, declared_line, here_lines, hidden_text, item_text, kind_text, name_line, name_text, not_good_text, nothing_text, owner_line, prose, site_text, skipped_text};
 
 use crate::found::{
-    Bound, DeclaredType, Definition, HereType, PlaceFound, PlaceItem, PlaceName, Spot,
+    Bound, DeclaredType, Definition, HereType, PlaceFound, PlaceItem, PlaceName, SourceSpot,
 };
 use hm_uses::NameKind;
 use std::alloc::{AllocError, Global};
@@ -24,7 +24,7 @@ pub(crate) fn kind_text(kind: NameKind) -> &'static str
 }
 
 /// Returns a place as FILE:LINE:COLUMN.
-fn site_text(alloc: Global, spot: &Spot) -> Result<String, AllocError>
+fn site_text(alloc: Global, spot: &SourceSpot) -> Result<String, AllocError>
     ensures { IfOk result (λ text. string_bytes text ≡ site_text (site_of spot.now).file (site_of spot.now).position) }
 {
     let file = spot.file.as_str();

@@ -9,7 +9,7 @@ ghost use Rattle.hm_build_places.specs.Views.{known_of};
 
 use crate::entities::declared_in;
 use crate::views::{View, file_text, module_of, number_of, origin_of, text_of};
-use hm_build_place_texts::{Bound, Spot};
+use hm_build_place_texts::{Bound, SourceSpot};
 use hm_lex::Place;
 use hm_messages_excerpts::SourceLines;
 use hm_messages_json::position_at;
@@ -20,13 +20,18 @@ use hm_uses_declarations::Meaning;
 use std::alloc::{AllocError, Global};
 
 /// Returns a place of a source with its position.
-fn spot_of(alloc: Global, view: &View<'_>, source: usize, place: Place) -> Result<Spot, AllocError>
+fn spot_of(
+    alloc: Global,
+    view: &View<'_>,
+    source: usize,
+    place: Place,
+) -> Result<SourceSpot, AllocError>
     ensures { IfOk result (λ spot. IsSiteOf (known_of view.now) source place (site_of spot)) }
 {
     let lines = SourceLines::of(alloc, text_of(view, source))?;
     let position = position_at(&lines, place);
     let file = file_text(alloc, view, source)?;
-    Ok(Spot { file, position })
+    Ok(SourceSpot { file, position })
 }
 
 /// Returns that a name is bound at a place of a source.

@@ -19,7 +19,7 @@ use std::alloc::{AllocError, Global};
 
 /// A place of a source. The column counts bytes, from 1.
 #[derive(Clone, Copy)]
-struct Spot {
+struct SourceSpot {
     source: usize,
     line: u32,
     column: usize,
@@ -29,7 +29,7 @@ struct Spot {
 fn module_items(
     alloc: Global,
     view: &View<'_>,
-    spot: Spot,
+    spot: SourceSpot,
     number: usize,
 ) -> Result<Vec<PlaceItem>, AllocError>
     requires { number < length view.now.store.now.modules }
@@ -48,7 +48,7 @@ fn module_items(
 }
 
 /// Returns what is at a place in all modules, in order.
-fn all_items(alloc: Global, view: &View<'_>, spot: Spot) -> Result<Vec<PlaceItem>, AllocError>
+fn all_items(alloc: Global, view: &View<'_>, spot: SourceSpot) -> Result<Vec<PlaceItem>, AllocError>
     ensures { IfOk result (λ items. AreFirstParts (HasItems (known_of view.now) spot.source (with_column spot.line spot.column))
         (length view.now.store.now.modules) (map item_of items.items)) }
 {
@@ -75,7 +75,7 @@ pub(crate) fn found_items(
         return Ok(Vec::new(alloc));
     };
     let bytes = bytes_before(rest, column.saturating_sub(1));
-    let spot = Spot {
+    let spot = SourceSpot {
         source,
         line,
         column: bytes + 1,

@@ -4,7 +4,7 @@ ghost use Rattle.serde_json.specs.View.{view};
 ghost use Rattle.hm_lsp_values.specs.Completions.{completion_data, completion_kind, completions_data, written_data};
 ghost use Rattle.hm_lsp_values.specs.Spans.{span_data};
 
-use crate::spans::{Span, span_value};
+use crate::spans::{NameSpan, span_value};
 use hm_lsp_positions::Position;
 use hm_names::Namespace;
 use hm_scope_typed_names::TypedName;
@@ -23,7 +23,7 @@ fn completion_kind(space: Namespace) -> u64
 }
 
 /// Returns the edit that writes a name in place of what is between two positions (`TextEdit`).
-fn written_value(alloc: Global, span: Span, name: &TypedName) -> Result<Value, AllocError>
+fn written_value(alloc: Global, span: NameSpan, name: &TypedName) -> Result<Value, AllocError>
     ensures { IfOk result (λ value. view value ≡ written_data span.start span.end name.now) }
 {
     let range = span_value(alloc, span)?;
@@ -32,7 +32,7 @@ fn written_value(alloc: Global, span: Span, name: &TypedName) -> Result<Value, A
 }
 
 /// Returns a name with its type, in place of what is written between two positions (`CompletionItem`).
-fn completion_value(alloc: Global, span: Span, name: &TypedName) -> Result<Value, AllocError>
+fn completion_value(alloc: Global, span: NameSpan, name: &TypedName) -> Result<Value, AllocError>
     ensures { IfOk result (λ value. view value ≡ completion_data span.start span.end name.now) }
 {
     let edit = written_value(alloc, span, name)?;
@@ -55,7 +55,7 @@ pub fn completions_value(
 ) -> Result<Value, AllocError>
     ensures { IfOk result (λ value. view value ≡ completions_data start end names.now) }
 {
-    let span = Span { start, end };
+    let span = NameSpan { start, end };
     let mut items = Vec::new(alloc);
     'names: for name in names {
         items.push(completion_value(alloc, span, name)?)?;

@@ -4,14 +4,14 @@ ghost use Rattle.serde_json.specs.View.{view};
 ghost use Rattle.hm_lsp_values.specs.References.{IsHighlight, IsReference, kind_of};
 ghost use Rattle.hm_lsp_values.specs.Spans.{IsSpan};
 
-use crate::spans::{Span, span_of, span_value};
+use crate::spans::{NameSpan, span_of, span_value};
 use hm_lsp_positions::Cursor;
 use hm_uses_references::Reference;
 use serde_json::{Value, json};
 use std::alloc::{AllocError, Global};
 
 /// Returns the positions between which a name is written in the text of its source, which a cursor is in.
-pub(crate) fn reference_span(cursor: &mut Cursor<'_>, reference: &Reference) -> Span
+pub(crate) fn reference_span(cursor: &mut Cursor<'_>, reference: &Reference) -> NameSpan
     ensures same { cursor.new ≡ cursor.old }
     ensures span { IsSpan cursor.old.encoding cursor.old.text reference.now.line reference.now.column reference.now.length result.start result.end }
 {

@@ -10,7 +10,7 @@ use std::alloc::{AllocError, Global};
 
 /// The positions between which a name is written.
 #[derive(Clone, Copy)]
-pub(crate) struct Span {
+pub(crate) struct NameSpan {
     pub start: Position,
     pub end: Position,
 }
@@ -39,7 +39,7 @@ fn position_at(line: u32, column: usize) -> Position
 
 /// Returns the positions between which a name of so many bytes is written in the text of a cursor. Its line and its column are from 1, and the column
 /// counts bytes.
-pub(crate) fn span_of(cursor: &mut Cursor<'_>, line: u32, column: usize, size: usize) -> Span
+pub(crate) fn span_of(cursor: &mut Cursor<'_>, line: u32, column: usize, size: usize) -> NameSpan
     ensures same { cursor.new ≡ cursor.old }
     ensures span { IsSpan cursor.old.encoding cursor.old.text line column size result.start result.end }
 {
@@ -47,14 +47,14 @@ pub(crate) fn span_of(cursor: &mut Cursor<'_>, line: u32, column: usize, size: u
     let end = end_of(cursor.text(), start, size);
     let first = cursor.position_of(start);
     let last = cursor.position_of(end);
-    Span {
+    NameSpan {
         start: first,
         end: last,
     }
 }
 
 /// Returns the range of a span (`Range`).
-pub(crate) fn span_value(alloc: Global, span: Span) -> Result<Value, AllocError>
+pub(crate) fn span_value(alloc: Global, span: NameSpan) -> Result<Value, AllocError>
     ensures { IfOk result (λ value. view value ≡ span_data span.start span.end) }
 {
     let start = position_value(alloc, span.start)?;

@@ -4,7 +4,7 @@ ghost use Rattle.serde_json.specs.View.{view};
 ghost use Rattle.hm_lsp_values.specs.Spans.{IsSpan};
 ghost use Rattle.hm_lsp_values.specs.Symbols.{IsLocatedSymbol, IsSymbol, symbol_kind};
 
-use crate::spans::{Span, span_of, span_value};
+use crate::spans::{NameSpan, span_of, span_value};
 use hm_lsp_positions::Cursor;
 use hm_syntax::Name;
 use hm_uses_symbols::{Symbol, SymbolKind};
@@ -25,7 +25,7 @@ fn symbol_kind(kind: SymbolKind) -> u64
 }
 
 /// Returns the positions between which a name without a qualifier is written in the text of its source, which a cursor is in.
-fn name_span(cursor: &mut Cursor<'_>, name: &Name) -> Span
+fn name_span(cursor: &mut Cursor<'_>, name: &Name) -> NameSpan
     ensures same { cursor.new ≡ cursor.old }
     ensures span { IsSpan cursor.old.encoding cursor.old.text name.now.line name.now.column (length name.now.text) result.start result.end }
 {

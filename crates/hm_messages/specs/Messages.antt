@@ -38,7 +38,7 @@ HasNoMessage Plain source place = HasNoReaderPlace source place
 HasNoMessage Coloured source place = HasNoReaderPlace source place
 HasNoMessage Json source place = ¬ IsPlaceIn source place
 
--- the text tells the subject at a place, which lies in the source: the file, the place, what is wrong, a sentence, and the line with a mark at the place
+-- the text states the subject at a place, which lies in the source: the file, the place, what is wrong, a sentence, and the line with a mark at the place
 pub record IsProse (format : MessageFormat) (file source : List ℕ) (place : Place) (subject : Subject) (text : List ℕ) : Type 0 where
   pub columns : Columns
   pub columns_at : AreColumnsAt source place columns
@@ -77,7 +77,7 @@ pub record Extras : Type 0 where
 abbrev pub changes_alone : List Changed → Extras
 changes_alone changes = record { changes = changes; part = None; second = None }
 
--- the text is the object of a message that tells the subject at a place: where it begins and ends in the source, which file that is, what is wrong, the
+-- the text is the object of a message that states the subject at a place: where it begins and ends in the source, which file that is, what is wrong, the
 -- changes and the parts that it speaks of, and perhaps in which module of the source
 pub record IsObjectWith (file source : List ℕ) (place : Place) (subject : Subject) (extras : Extras) (text : List ℕ) : Type 0 where
   pub message : Message
@@ -102,7 +102,7 @@ pub record NamesModule (starts : List Start) (place : Place) (text : List ℕ) :
   pub module_is : IsModuleAt starts place (option_map (λ name. name.now) message.«module»)
   pub says : text ≡ message_text message
 
--- the text tells the subject at a place, to a reader or to a program
+-- the text states the subject at a place, to a reader or to a program
 abbrev pub StatesAt : MessageFormat → List ℕ → List ℕ → Place → Subject → List ℕ → Type 0
 StatesAt Plain file source place subject text = IsProse Plain file source place subject text
 StatesAt Coloured file source place subject text = IsProse Coloured file source place subject text
@@ -114,7 +114,7 @@ StatesWith Plain file source place subject extras text = IsProse Plain file sour
 StatesWith Coloured file source place subject extras text = IsProse Coloured file source place subject text
 StatesWith Json file source place subject extras text = IsObjectWith file source place subject extras text
 
--- the text tells the subject at a place, to a reader by the first line alone
+-- the text states the subject at a place, to a reader by the first line alone
 abbrev pub StatesInLine : MessageFormat → List ℕ → List ℕ → Place → Subject → List ℕ → Type 0
 StatesInLine Plain file source place subject text = IsProseHeading Plain file source place subject text
 StatesInLine Coloured file source place subject text = IsProseHeading Coloured file source place subject text
@@ -159,5 +159,5 @@ pub record IsFaultMessage (format : MessageFormat) (file source : List ℕ) (f :
 
 -- the text has a part for each element, in order, and no more
 abbrev pub AreEach : {X : Type 0} → (X → List ℕ → Type 0) → List X → List ℕ → Type 0
-AreEach tells [] text = text ≡ []
-AreEach tells (x ∷ xs) text = (first : List ℕ) × (later : List ℕ) × tells x first × AreEach tells xs later × (text ≡ first ++ later)
+AreEach says [] text = text ≡ []
+AreEach says (x ∷ xs) text = (first : List ℕ) × (later : List ℕ) × says x first × AreEach says xs later × (text ≡ first ++ later)

@@ -1,4 +1,4 @@
--- What a message tells, without where its names lie in memory.
+-- What a message says, without where its names lie in memory.
 use Rattle.std.specs.Prelude.{Bool, List, Option, ℕ, option_map}
 use Rattle.hm_lex.specs.declared.token.Place.{Place}
 use Rattle.hm_messages_details.specs.Details.{Known, known_of}

@@ -5,7 +5,7 @@ use std::alloc::{AllocError, Global};
 
 /// A step of a path: an import of a module, both by their numbers.
 #[derive(Clone, Copy)]
-pub(crate) struct Step {
+pub(crate) struct ImportStep {
     pub module: usize,
     pub import: usize,
 }
@@ -14,7 +14,7 @@ pub(crate) struct Step {
 struct Search<'a> {
     numbers: IndexMap<&'a str, usize>,
     /// For each module, the step that reached it first.
-    came: Vec<Option<Step>>,
+    came: Vec<Option<ImportStep>>,
     /// The modules that were reached, in order.
     reached: Vec<usize>,
 }
@@ -47,13 +47,13 @@ fn reach(
     located: &[Located],
     module: usize,
     start: usize,
-) -> Result<Option<Step>, AllocError> {
+) -> Result<Option<ImportStep>, AllocError> {
     let Some(here) = located.get(module) else {
         return Ok(None);
     };
     let imports = here.header.imports.as_slice();
     for import in 0..imports.len() {
-        let step = Step { module, import };
+        let step = ImportStep { module, import };
         let Some(target) = search.numbers.get(imports[import].name.as_str()) else {
             continue;
         };
@@ -72,10 +72,10 @@ fn reach(
 /// Returns the steps from `start` to the last one.
 fn way_to(
     alloc: Global,
-    came: &[Option<Step>],
-    last: Step,
+    came: &[Option<ImportStep>],
+    last: ImportStep,
     start: usize,
-) -> Result<Vec<Step>, AllocError> {
+) -> Result<Vec<ImportStep>, AllocError> {
     let mut steps = Vec::new(alloc);
     let mut step = last;
     for _ in 0..came.len() {
@@ -97,7 +97,7 @@ pub(crate) fn cycle_of(
     alloc: Global,
     located: &[Located],
     start: usize,
-) -> Result<Vec<Step>, AllocError> {
+) -> Result<Vec<ImportStep>, AllocError> {
     let mut search = Search {
         numbers: numbers_of(alloc, located)?,
         came: vec![in alloc; None; located.len()]?,

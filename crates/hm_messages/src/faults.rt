@@ -9,7 +9,7 @@ use crate::pages::Page;
 use crate::topic::Topic;
 use hm_messages_details::Detail;
 use hm_messages_json::{Position, position_at};
-use hm_messages_titles::Named;
+use hm_messages_titles::NamedFault;
 use hm_names::Fault;
 use std::alloc::{AllocError, Global};
 
@@ -45,7 +45,7 @@ pub fn fault_message(
 {
     let name = fault.name.as_str();
     let other = other_at(page, &detail);
-    let named = Named {
+    let named = NamedFault {
         name,
         detail,
         other,

@@ -29,4 +29,4 @@ pub use crate::pages::{Page, Pages};
 pub use crate::refusals::{Messages, refusal_messages, source_message};
 pub use crate::starts::{ModuleStart, SourceModules};
 pub use crate::topic::{ArgumentCounts, BothTypes, Pair, PlacedAdvice, Topic, Way};
-pub use hm_messages_titles::Named;
+pub use hm_messages_titles::NamedFault;

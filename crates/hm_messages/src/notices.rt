@@ -8,7 +8,7 @@ use crate::sentences::{fault_sentence, types_sentence};
 use crate::topic::{BothTypes, PlacedAdvice, Topic, Way};
 use hm_messages_hints::{lexeme_help, syntax_help};
 use hm_messages_json::{Level, Position};
-use hm_messages_titles::Named;
+use hm_messages_titles::NamedFault;
 use hm_names::Kind;
 use hm_verdicts::kind_word;
 
@@ -73,7 +73,7 @@ fn note<'a>(kind: &'static str, name: Option<&'a str>) -> Notice<'a>
 }
 
 /// Returns the notice of a fault of a module.
-fn fault_notice<'a>(kind: Kind, named: &Named<'a>) -> Notice<'a>
+fn fault_notice<'a>(kind: Kind, named: &NamedFault<'a>) -> Notice<'a>
     ensures level { result.level ≡ (fault_notice kind named.now.name.now named.now.other).level }
     ensures kind { result.kind.now ≡ (fault_notice kind named.now.name.now named.now.other).kind }
     ensures name { option_map (λ x. x.now) result.name ≡ Some named.now.name.now }

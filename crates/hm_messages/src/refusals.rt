@@ -12,7 +12,7 @@ ghost use Rattle.hm_messages.specs.Refused.{Way, AreFurtherStated, AreMessagesOf
 ghost use Rattle.hm_messages.specs.Subjects.{cycle, subject_of, twice};
 ghost use Rattle.hm_messages.specs.Twins.{IsTwinOf};
 
-use crate::cycles::{Step, cycle_of};
+use crate::cycles::{ImportStep, cycle_of};
 use crate::messages::{MessageFault, heading_at, message};
 use crate::missing::{MissingImport, missing_imports, near_for};
 use crate::pages::{Page, Pages};
@@ -49,7 +49,7 @@ fn module_spot(located: &[Located], number: usize) -> Spot
 }
 
 /// Returns the spot of the name in an import of a module.
-fn import_spot(located: &[Located], step: Step) -> Option<Spot>
+fn import_spot(located: &[Located], step: ImportStep) -> Option<Spot>
     ensures inside { IfSome result (λ spot. (sources : List (List ℕ)) → AreLocated sources located.now → spot.source < length sources) }
     ensures named { IfSome result (λ spot. (sources : List (List ℕ)) → AreLocated sources located.now → IsNamedAt sources spot.source spot.place) }
 {
@@ -225,7 +225,7 @@ fn step_line(
     alloc: Global,
     pages: &Pages<'_>,
     located: &[Located],
-    step: Step,
+    step: ImportStep,
 ) -> Result<Vec<u8>, AllocError>
     requires { AreLocated (texts_in pages.now.items.items) located.now }
     ensures { IfOk result (λ text. (ways : List Way)
@@ -251,7 +251,7 @@ fn step_lines(
     alloc: Global,
     pages: &Pages<'_>,
     located: &[Located],
-    steps: &[Step],
+    steps: &[ImportStep],
 ) -> Result<Vec<u8>, AllocError>
     requires { AreLocated (texts_in pages.now.items.items) located.now }
     ensures { IfOk result (λ text. (ways : List Way)
@@ -266,7 +266,7 @@ fn step_lines(
 }
 
 /// Returns the spot of the first import of a cycle. Without one it is that of the module's name.
-fn cycle_spot(located: &[Located], steps: &[Step], start: usize) -> Spot
+fn cycle_spot(located: &[Located], steps: &[ImportStep], start: usize) -> Spot
     requires { start < length located.now }
     ensures inside { (sources : List (List ℕ)) → AreLocated sources located.now → result.source < length sources }
     ensures named { (sources : List (List ℕ)) → AreLocated sources located.now → IsNamedAt sources result.source result.place }

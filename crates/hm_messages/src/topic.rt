@@ -2,7 +2,7 @@
 use hm_lex::Place;
 use hm_messages_hints::{LexemeHint, SyntaxHint};
 use hm_messages_json::Position;
-use hm_messages_titles::Named;
+use hm_messages_titles::NamedFault;
 use hm_names::Kind;
 
 /// The advice for a fault of syntax.
@@ -81,7 +81,7 @@ pub struct ArgumentCounts<'a> {
 #[derive(Clone, Copy)]
 pub enum Topic<'a> {
     /// A fault of a module.
-    Fault(Kind, Named<'a>),
+    Fault(Kind, NamedFault<'a>),
     /// A definition has a type with this change.
     Replaceable(&'a str, Way),
     /// A definition has a type with this constructor in front of an expression, which ends at this place.

@@ -16,4 +16,4 @@ pub use crate::data::{Copied, Inside, NamePart, Point, Scoped, Target};
 pub use crate::definitions::{
     Declared, declarations_around, declared_in, is_definition, is_signed, name_of,
 };
-pub use crate::spots::{Headed, Spot, copies_of, spot_of, with_heads};
+pub use crate::spots::{Headed, TypeSpot, copies_of, spot_of, with_heads};

@@ -11,7 +11,7 @@ use std::alloc::{AllocError, Global};
 
 /// Where the type of a name is read, and in copies of how many definitions.
 #[derive(Clone, Copy)]
-pub struct Spot {
+pub struct TypeSpot {
     pub point: Point,
     pub depth: usize,
     /// Where the name begins.
@@ -104,7 +104,12 @@ fn room_around(lexed: &Lexed<'_>, run: Run, token: usize) -> Option<Room> {
 }
 
 /// Returns where the type of a name is read, by the declarations that its token is in.
-pub fn spot_of(lexed: &Lexed<'_>, around: &[Declared], token: usize, name: NamePart) -> Option<Spot>
+pub fn spot_of(
+    lexed: &Lexed<'_>,
+    around: &[Declared],
+    token: usize,
+    name: NamePart,
+) -> Option<TypeSpot>
     ensures { IfSome result (λ s. part_of s.point ≡ name.part) }
 {
     let last = around.last()?;
@@ -113,20 +118,20 @@ pub fn spot_of(lexed: &Lexed<'_>, around: &[Declared], token: usize, name: NameP
     let byte = name.part.from;
     if name.binds || !is_definition(lexed.outline, run) {
         if is_declared_name(lexed, *last, token) {
-            return Some(Spot {
+            return Some(TypeSpot {
                 point: Point::Variable(name.part, lexed.end(run), Scoped::After),
                 depth: depth.saturating_sub(1),
                 byte,
             });
         }
         let room = room_around(lexed, run, token)?;
-        return Some(Spot {
+        return Some(TypeSpot {
             point: Point::Variable(name.part, room.at, room.scoped),
             depth,
             byte,
         });
     }
-    Some(Spot {
+    Some(TypeSpot {
         point: Point::Expression(name.part),
         depth,
         byte,

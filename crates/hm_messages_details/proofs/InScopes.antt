@@ -14,19 +14,19 @@ use Rattle.hm_names.specs.Walk.{Node}
 use Rattle.hm_names.specs.declared.faults.Fault.{Fault}
 use Rattle.hm_messages_details.specs.NearLocals.{HasNearLocal, IsNearLocal, is_near_local}
 use Rattle.hm_messages_details.specs.Nearness.{AreNear}
-use Rattle.hm_messages_details.specs.Parts.{Part, a_list, IsPart, list_is, head_is, parameters_are, pattern_is, type_is, variable_is, constructor_is, type_variable_is, declarations_parts, module_parts, part_of}
+use Rattle.hm_messages_details.specs.Parts.{ModulePart, a_list, IsPart, list_is, head_is, parameters_are, pattern_is, type_is, variable_is, constructor_is, type_variable_is, declarations_parts, module_parts, part_of}
 use Rattle.hm_messages_details.specs.Scopes.{IsUseWithin, Occurs, Reaches, Scopes, binders, further, locals_at, locals_of, open_in, start}
-use Rattle.hm_messages_details.specs.declared.parts.Part.{Part as LentPart}
+use Rattle.hm_messages_details.specs.declared.parts.ModulePart.{ModulePart as LentPart}
 use Rattle.hm_messages_details.specs.declared.role.Role.TheVariants.{Variable, Constructor, TypeVariable}
 use Rattle.hm_messages_details.proofs.Found.{at_index}
 use Rattle.hm_messages_details.proofs.InModules.{in_all}
 
 -- a step of a loop over parts
-pub stepped : (row : List LentPart) (i : ℕ) (p : LentPart) (ss ts : Scopes) (ps : List Part) → i < length row → p ≡ get_or row i p → Reaches ss ps ts (map part_of (drop i row)) → Reaches ss ps ts (part_of p ∷ map part_of (drop (i + 1) row))
+pub stepped : (row : List LentPart) (i : ℕ) (p : LentPart) (ss ts : Scopes) (ps : List ModulePart) → i < length row → p ≡ get_or row i p → Reaches ss ps ts (map part_of (drop i row)) → Reaches ss ps ts (part_of p ∷ map part_of (drop (i + 1) row))
 stepped row i p ss ts ps l is r = subst (Reaches ss ps ts) (ap (map part_of) (unrolled row i p l is)) r
 
 -- what occurs after some parts occurs among all
-pub among : (R : Scopes → Part → Type 0) (ss : Scopes) (ps : List Part) (ts : Scopes) (rest : List Part) → Reaches ss ps ts rest → Occurs R ts rest → Occurs R ss ps
+pub among : (R : Scopes → ModulePart → Type 0) (ss : Scopes) (ps : List ModulePart) (ts : Scopes) (rest : List ModulePart) → Reaches ss ps ts rest → Occurs R ts rest → Occurs R ss ps
 among R ss ps ts rest start o = o
 among R ss ps ts rest (further r) o = among R ss ps _ _ r (inr o)
 
@@ -36,7 +36,7 @@ turned (y ∷ ys) x c = subst (λ l. Contains l x) (sym (reverse-append (y ∷ [
     (⊎_elim (λ e. Contains-append_right (reverse ys) (y ∷ []) x (0, omega arith, sym e)) (λ o. Contains-append_left (reverse ys) (y ∷ []) x (turned ys x o)) (cases y ys x c))
 
 -- a variable of one of the scopes
-pub local_in : (ss : Scopes) (p : Part) (x : List ℕ) → Contains ss p → Contains (texts (binders p)) x → Contains (locals_of ss) x
+pub local_in : (ss : Scopes) (p : ModulePart) (x : List ℕ) → Contains ss p → Contains (texts (binders p)) x → Contains (locals_of ss) x
 local_in [] p x c b = absurd (none_in p c)
 local_in (q ∷ ss) p x c b = ⊎_elim (λ e. Contains-append_left (texts (binders q)) (locals_of ss) x (subst (λ r. Contains (texts (binders r)) x) e b))
     (λ o. Contains-append_right (texts (binders q)) (locals_of ss) x (local_in ss p x o b)) (cases q ss p c)
@@ -51,7 +51,7 @@ near_scope f ps i p names some text x l is bound as_slice as_str found =
     (local_in (open_in ps) (part_of p) x (turned (map part_of ps) (part_of p) (at_index part_of ps i p l is)) named, subst (λ y. AreNear y x) as_str found.3)
 
 module _ (f : Fault) (x : List ℕ) (around : Scopes) (local : Contains (locals_of around) x) (near : AreNear f.name x) where
-  at_node : (ss : Scopes) (k : Node) (p : Part) → IsPart k p → IsUseWithin f around ss p → IsNearLocal f x (locals_at ss p) k
+  at_node : (ss : Scopes) (k : Node) (p : ModulePart) → IsPart k p → IsUseWithin f around ss p → IsNearLocal f x (locals_at ss p) k
   at_node ss k p list_is u = absurd u.1
   at_node ss k p head_is u = absurd u.1
   at_node ss k p parameters_are u = absurd u.1
@@ -65,7 +65,7 @@ module _ (f : Fault) (x : List ℕ) (around : Scopes) (local : Contains (locals_
   pub near_around : (m : Module) → Occurs (IsUseWithin f around) [] (declarations_parts (declarations m.decls)) → HasNearLocal m f x
   near_around m o = inr (in_all (λ xs k. IsNearLocal f x xs k) (IsUseWithin f around) at_node (λ ss u. u.1) (declarations m.decls) o)
 
-tail_is : (p q : Part) (ps qs : List Part) → p ∷ ps ≡ q ∷ qs → ps ≡ qs
+tail_is : (p q : ModulePart) (ps qs : List ModulePart) → p ∷ ps ≡ q ∷ qs → ps ≡ qs
 tail_is p q ps qs e = cc
 
 -- the same, as the code finds it

@@ -65,7 +65,7 @@ known_of (detail.NearBinding x) = near_binding x.now
 known_of (detail.Elsewhere s) = elsewhere s
 known_of detail.ByPattern = by_pattern
 
--- behind the same qualifier, the name of the pair can stand there and is near to this one, or it can stand there and this one is its small form
+-- after the same qualifier, the name of the pair can be written there and is near to this one, or it can be written there and this one is its small form
 pub record IsNearPair (r : Role) (name : List ℕ) (p : Pair) : Type 0 where
   pub text : List ℕ
   pub written : name ≡ written_in p.qualifier text

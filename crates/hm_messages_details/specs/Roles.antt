@@ -22,7 +22,7 @@ pub data IsRoleAt (f : Fault) : Role → Node → Type 0 where
   a_type : {n : Identifier} {ts : TypeTrees} → IsAt f n → IsRoleAt f TypeConstructor (at_type (constructor_type n ts))
   a_type_variable : {n : Identifier} → IsAt f n → IsRoleAt f TypeVariable (at_type (variable_type n))
 
--- the fault is at the variable or the type of an export. The constructors in the brackets of a type have no role: only those of this type can stand there
+-- the fault is at the variable or the type of an export. The constructors in the brackets of a type have no role: only those of this type can be written there
 pub data IsRoleIn (f : Fault) : Role → Export → Type 0 where
   an_exported_variable : {n : Identifier} → IsAt f n → IsRoleIn f ExportedVariable (export.Var n)
   an_exported_type : {n : Identifier} {s : SubItems} → IsAt f n → IsRoleIn f TypeConstructor (export.Con n s)
@@ -39,7 +39,7 @@ pub record IsExportedAs (m : Module) (f : Fault) (r : Role) : Type 0 where
 abbrev pub HasRole : Module → Fault → Role → Type 0
 HasRole m f r = Somewhere m (λ xs k. IsRoleAt f r k) ⊎ IsExportedAs m f r
 
--- a name of this namespace can stand there
+-- a name of this namespace can be written there
 abbrev pub CanStand : Role → Namespace → Type 0
 CanStand Variable s = s ≡ Values
 CanStand ExportedVariable s = s ≡ Values
@@ -47,7 +47,7 @@ CanStand Constructor s = s ≡ Constructors
 CanStand TypeConstructor s = s ≡ Types
 CanStand TypeVariable s = ⊥
 
--- a name of this namespace can stand there if it begins with a capital letter in place of a small one
+-- a name of this namespace can be written there if it begins with a capital letter in place of a small one
 abbrev pub CanStandInCapitals : Role → Namespace → Type 0
 CanStandInCapitals Variable s = s ≡ Constructors
 CanStandInCapitals ExportedVariable s = ⊥

@@ -7,7 +7,7 @@ ghost use Rattle.hm_messages_details.specs.Counts.{AreArguments, ConstructorTake
 ghost use Rattle.hm_messages_details.specs.Parts.{HasArgumentsIn, part_of};
 
 use crate::firsts::is_at;
-use crate::parts::{Part, parts_of};
+use crate::parts::{ModulePart, parts_of};
 use crate::site::Site;
 use hm_names::{Fault, Namespace};
 use hm_scope_resolve::special_arity;
@@ -67,12 +67,12 @@ fn constructor_arity(site: &Site<'_, '_, '_>, name: &Name) -> Option<usize>
 }
 
 /// Returns the numbers of arguments of a part, if a fault is at it.
-fn counts_in(site: &Site<'_, '_, '_>, fault: &Fault, part: Part<'_>) -> Option<Counts>
+fn counts_in(site: &Site<'_, '_, '_>, fault: &Fault, part: ModulePart<'_>) -> Option<Counts>
     ensures { IfSome result (λ c. (fs : List Interface) → IsScopeOf site.now.program.now fs site.now.scope.now → AreTablesOf site.now.program.now fs site.now.tables.now
         → HasArgumentsIn site.now.program.now fs fault.now c.here c.right (part_of part.entry)) }
 {
     match part {
-        Part::Pattern(name, args) => {
+        ModulePart::Pattern(name, args) => {
             if !is_at(fault, name) {
                 return None;
             }
@@ -82,7 +82,7 @@ fn counts_in(site: &Site<'_, '_, '_>, fault: &Fault, part: Part<'_>) -> Option<C
                 right,
             })
         }
-        Part::Type(name, args) => {
+        ModulePart::Type(name, args) => {
             if !is_at(fault, name) {
                 return None;
             }
@@ -92,12 +92,12 @@ fn counts_in(site: &Site<'_, '_, '_>, fault: &Fault, part: Part<'_>) -> Option<C
                 right,
             })
         }
-        Part::List(_) => None,
-        Part::Head(_) => None,
-        Part::Alone(_) => None,
-        Part::Parameters(_) => None,
-        Part::Use(_, _) => None,
-        Part::End => None,
+        ModulePart::List(_) => None,
+        ModulePart::Head(_) => None,
+        ModulePart::Alone(_) => None,
+        ModulePart::Parameters(_) => None,
+        ModulePart::Use(_, _) => None,
+        ModulePart::End => None,
     }
 }
 

@@ -5,7 +5,7 @@ ghost use Rattle.hm_syntax.specs.Lists.{declarations};
 ghost use Rattle.hm_messages_details.specs.Firsts.{IsAt, IsFirst, IsFirstAt, first_named, place_of};
 ghost use Rattle.hm_messages_details.specs.Parts.{IsFirstIn, a_list, part_of};
 
-use crate::parts::{Part, parts_of};
+use crate::parts::{ModulePart, parts_of};
 use crate::written::after_qualifier;
 use hm_lex::Place;
 use hm_names::{Fault, LentNames, add_pattern, add_patterns};
@@ -86,28 +86,28 @@ fn first_in_list(alloc: Global, fault: &Fault, decls: &[Decl]) -> Result<Option<
 }
 
 /// Returns the place of the first of the names of a part that are that of a fault at another of them.
-fn first_in(alloc: Global, fault: &Fault, part: Part<'_>) -> Result<Option<Place>, AllocError>
+fn first_in(alloc: Global, fault: &Fault, part: ModulePart<'_>) -> Result<Option<Place>, AllocError>
     ensures { IfOk result (λ found. IfSome found (IsFirstIn (part_of part.entry) fault.now)) }
 {
     let mut names = LentNames::new(alloc);
     match part {
-        Part::List(decls) => Ok(first_in_list(alloc, fault, decls)?),
-        Part::Head(pats) => {
+        ModulePart::List(decls) => Ok(first_in_list(alloc, fault, decls)?),
+        ModulePart::Head(pats) => {
             add_patterns(&mut names, pats)?;
             Ok(first_among(fault, &names))
         }
-        Part::Alone(pat) => {
+        ModulePart::Alone(pat) => {
             add_pattern(&mut names, pat)?;
             Ok(first_among(fault, &names))
         }
-        Part::Parameters(params) => {
+        ModulePart::Parameters(params) => {
             add_names(&mut names, params)?;
             Ok(first_among(fault, &names))
         }
-        Part::Pattern(_, _) => Ok(None),
-        Part::Type(_, _) => Ok(None),
-        Part::Use(_, _) => Ok(None),
-        Part::End => Ok(None),
+        ModulePart::Pattern(_, _) => Ok(None),
+        ModulePart::Type(_, _) => Ok(None),
+        ModulePart::Use(_, _) => Ok(None),
+        ModulePart::End => Ok(None),
     }
 }
 

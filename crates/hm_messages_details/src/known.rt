@@ -17,7 +17,7 @@ use crate::lengths::pattern_counts;
 use crate::listed::import_detail;
 use crate::locals::near_local;
 use crate::nearest::{entity_of, nearest, other_entity_of, space_of};
-use crate::parts::{Part, parts_of};
+use crate::parts::{ModulePart, parts_of};
 use crate::patterned::is_pattern_bound;
 use crate::role::Role;
 use crate::roles::role_of;
@@ -34,7 +34,7 @@ fn unbound_detail<'s>(
     site: &Site<'_, 's, '_>,
     fault: &Fault,
     role: Role,
-    parts: &[Part<'s>],
+    parts: &[ModulePart<'s>],
 ) -> Result<Detail<'s>, AllocError>
     requires unbound { fault.now.kind ≡ Unbound }
     requires stands { HasRole site.now.program.now fault.now role }

@@ -9,7 +9,7 @@ ghost use Rattle.hm_messages_details.specs.Parts.{HasLengthsIn, later_of, part_o
 
 use crate::counts::Counts;
 use crate::firsts::is_at;
-use crate::parts::{Part, parts_of};
+use crate::parts::{ModulePart, parts_of};
 use hm_names::Fault;
 use hm_syntax::{Decl, DeclKind, Module, Name, Pat};
 use std::alloc::{AllocError, Global};
@@ -152,10 +152,14 @@ fn lengths_in_list(
 }
 
 /// Returns the numbers of patterns of a clause of a part, if a fault is at it.
-fn lengths_in(alloc: Global, fault: &Fault, part: Part<'_>) -> Result<Option<Counts>, AllocError>
+fn lengths_in(
+    alloc: Global,
+    fault: &Fault,
+    part: ModulePart<'_>,
+) -> Result<Option<Counts>, AllocError>
     ensures { IfOk result (λ found. IfSome found (λ c. HasLengthsIn fault.now c.here c.right (part_of part.entry))) }
 {
-    let Part::List(decls) = part else {
+    let ModulePart::List(decls) = part else {
         return Ok(None);
     };
     Ok(lengths_in_list(alloc, fault, decls)?)

@@ -7,7 +7,7 @@ ghost use Rattle.hm_messages_details.specs.Parts.{module_parts, part_of};
 ghost use Rattle.hm_messages_details.specs.Scopes.{IsUseOf, IsUseWithin, Occurs, binders, locals_of, open_after, open_in};
 
 use crate::firsts::is_at;
-use crate::parts::Part;
+use crate::parts::ModulePart;
 use crate::role::Role;
 use crate::signed::near_among;
 use hm_names::{Fault, LentNames, add_all_bound, add_pattern, add_patterns};
@@ -15,10 +15,10 @@ use hm_scope_tables::TextSet;
 use std::alloc::{AllocError, Global};
 
 /// Returns whether a fault is at a variable without a qualifier.
-fn is_use(fault: &Fault, part: Part<'_>) -> bool
+fn is_use(fault: &Fault, part: ModulePart<'_>) -> bool
     ensures { result ≡ true → IsUseOf fault.now (part_of part.entry) }
 {
-    let Part::Use(role, name) = part else {
+    let ModulePart::Use(role, name) = part else {
         return false;
     };
     let Role::Variable = role else {
@@ -31,30 +31,30 @@ fn is_use(fault: &Fault, part: Part<'_>) -> bool
 }
 
 /// Opens the scope of a part, or closes the innermost one at its end.
-fn pass<'a>(scopes: &mut Vec<Part<'a>>, part: Part<'a>) -> Result<(), AllocError>
+fn pass<'a>(scopes: &mut Vec<ModulePart<'a>>, part: ModulePart<'a>) -> Result<(), AllocError>
     ensures { OnOk result (open_in scopes.new.items ≡ open_after (open_in scopes.old.items) (part_of part.entry)) }
 {
     match part {
-        Part::List(_) => Ok(scopes.push(part)?),
-        Part::Head(_) => Ok(scopes.push(part)?),
-        Part::Alone(_) => Ok(scopes.push(part)?),
-        Part::End => {
+        ModulePart::List(_) => Ok(scopes.push(part)?),
+        ModulePart::Head(_) => Ok(scopes.push(part)?),
+        ModulePart::Alone(_) => Ok(scopes.push(part)?),
+        ModulePart::End => {
             scopes.pop();
             Ok(())
         }
-        Part::Parameters(_) => Ok(()),
-        Part::Pattern(_, _) => Ok(()),
-        Part::Type(_, _) => Ok(()),
-        Part::Use(_, _) => Ok(()),
+        ModulePart::Parameters(_) => Ok(()),
+        ModulePart::Pattern(_, _) => Ok(()),
+        ModulePart::Type(_, _) => Ok(()),
+        ModulePart::Use(_, _) => Ok(()),
     }
 }
 
 /// Returns the scopes around the variable that a fault is at, the innermost last.
 fn scopes_around<'a>(
     alloc: Global,
-    parts: &[Part<'a>],
+    parts: &[ModulePart<'a>],
     fault: &Fault,
-) -> Result<Option<Vec<Part<'a>>>, AllocError>
+) -> Result<Option<Vec<ModulePart<'a>>>, AllocError>
     ensures { IfOk result (λ found. IfSome found (λ scopes. Occurs (IsUseWithin fault.now (open_in scopes.items)) [] (map part_of parts.now))) }
 {
     let mut scopes = Vec::new(alloc);
@@ -68,28 +68,28 @@ fn scopes_around<'a>(
 }
 
 /// Returns the variables whose scope a part opens.
-fn variables_of<'a>(alloc: Global, part: Part<'a>) -> Result<LentNames<'a>, AllocError>
+fn variables_of<'a>(alloc: Global, part: ModulePart<'a>) -> Result<LentNames<'a>, AllocError>
     ensures { IfOk result (λ names. names ≡ binders (part_of part.entry)) }
 {
     let mut names = LentNames::new(alloc);
     match part {
-        Part::List(decls) => {
+        ModulePart::List(decls) => {
             add_all_bound(&mut names, decls)?;
             Ok(names)
         }
-        Part::Head(pats) => {
+        ModulePart::Head(pats) => {
             add_patterns(&mut names, pats)?;
             Ok(names)
         }
-        Part::Alone(pat) => {
+        ModulePart::Alone(pat) => {
             add_pattern(&mut names, pat)?;
             Ok(names)
         }
-        Part::End => Ok(names),
-        Part::Parameters(_) => Ok(names),
-        Part::Pattern(_, _) => Ok(names),
-        Part::Type(_, _) => Ok(names),
-        Part::Use(_, _) => Ok(names),
+        ModulePart::End => Ok(names),
+        ModulePart::Parameters(_) => Ok(names),
+        ModulePart::Pattern(_, _) => Ok(names),
+        ModulePart::Type(_, _) => Ok(names),
+        ModulePart::Use(_, _) => Ok(names),
     }
 }
 
@@ -97,7 +97,7 @@ fn variables_of<'a>(alloc: Global, part: Part<'a>) -> Result<LentNames<'a>, Allo
 fn near_within<'a>(
     alloc: Global,
     fault: &Fault,
-    scopes: &[Part<'a>],
+    scopes: &[ModulePart<'a>],
 ) -> Result<Option<&'a str>, AllocError>
     ensures { IfOk result (λ found. IfSome found (λ x. Contains (locals_of (open_in scopes.now)) x.now × AreNear fault.now.name x.now)) }
 {
@@ -118,7 +118,7 @@ fn near_within<'a>(
 /// Returns a near name that a pattern or a declaration binds in whose scope the fault is. The innermost one comes first.
 pub(crate) fn near_local<'a>(
     alloc: Global,
-    parts: &[Part<'a>],
+    parts: &[ModulePart<'a>],
     fault: &Fault,
 ) -> Result<Option<&'a str>, AllocError>
     ensures { IfOk result (λ found. IfSome found (λ x. («module» : ModuleTree) → map part_of parts.now ≡ module_parts «module».decls

@@ -13,7 +13,7 @@ use std::alloc::{AllocError, Global};
 
 /// A part of a module.
 #[derive(Clone, Copy)]
-pub(crate) enum Part<'a> {
+pub(crate) enum ModulePart<'a> {
     /// A declaration list.
     List(&'a [Decl]),
     /// The patterns of a clause or a lambda.
@@ -33,7 +33,7 @@ pub(crate) enum Part<'a> {
 }
 
 /// Adds a part.
-fn add_part<'a>(out: &mut Vec<Part<'a>>, part: Part<'a>) -> Result<(), AllocError>
+fn add_part<'a>(out: &mut Vec<ModulePart<'a>>, part: ModulePart<'a>) -> Result<(), AllocError>
     ensures { OnOk result (map part_of out.new.items ≡ map part_of out.old.items ++ part_of part.entry ∷ []) }
 {
     out.push(part)?;
@@ -43,13 +43,13 @@ fn add_part<'a>(out: &mut Vec<Part<'a>>, part: Part<'a>) -> Result<(), AllocErro
 /// Adds the parts of a type.
 #[cycle(types)]
 #[tactic(auto, using(hm_names::proofs::Rows::type_falls))]
-fn add_type<'a>(out: &mut Vec<Part<'a>>, ty: &'a TypeExpr) -> Result<(), AllocError>
+fn add_type<'a>(out: &mut Vec<ModulePart<'a>>, ty: &'a TypeExpr) -> Result<(), AllocError>
     ensures { OnOk result (map part_of out.new.items ≡ map part_of out.old.items ++ type_parts ty.now) }
 {
     match &ty.kind {
-        TypeKind::Var(name) => Ok(add_part(out, Part::Use(Role::TypeVariable, name))?),
+        TypeKind::Var(name) => Ok(add_part(out, ModulePart::Use(Role::TypeVariable, name))?),
         TypeKind::Con(name, args) => {
-            add_part(out, Part::Type(name, args))?;
+            add_part(out, ModulePart::Type(name, args))?;
             add_types(out, args)?;
             Ok(())
         }
@@ -67,7 +67,7 @@ fn add_type<'a>(out: &mut Vec<Part<'a>>, ty: &'a TypeExpr) -> Result<(), AllocEr
 /// Adds the parts of a row of types.
 #[cycle(types)]
 #[tactic(auto, using(hm_names::proofs::Rows::type_falls))]
-fn add_types<'a>(out: &mut Vec<Part<'a>>, row: &'a [TypeExpr]) -> Result<(), AllocError>
+fn add_types<'a>(out: &mut Vec<ModulePart<'a>>, row: &'a [TypeExpr]) -> Result<(), AllocError>
     ensures { OnOk result (map part_of out.new.items ≡ map part_of out.old.items ++ types_parts (types row.now)) }
 {
     'row: for ty in row {
@@ -77,7 +77,7 @@ fn add_types<'a>(out: &mut Vec<Part<'a>>, row: &'a [TypeExpr]) -> Result<(), All
 }
 
 /// Adds the parts of a constructor's declaration.
-fn add_constructor<'a>(out: &mut Vec<Part<'a>>, constr: &'a Constr) -> Result<(), AllocError>
+fn add_constructor<'a>(out: &mut Vec<ModulePart<'a>>, constr: &'a Constr) -> Result<(), AllocError>
     ensures { OnOk result (map part_of out.new.items ≡ map part_of out.old.items ++ constructor_parts constr.now) }
 {
     add_types(out, &constr.args)?;
@@ -85,7 +85,7 @@ fn add_constructor<'a>(out: &mut Vec<Part<'a>>, constr: &'a Constr) -> Result<()
 }
 
 /// Adds the parts of a row of constructors' declarations.
-fn add_constructors<'a>(out: &mut Vec<Part<'a>>, row: &'a [Constr]) -> Result<(), AllocError>
+fn add_constructors<'a>(out: &mut Vec<ModulePart<'a>>, row: &'a [Constr]) -> Result<(), AllocError>
     ensures { OnOk result (map part_of out.new.items ≡ map part_of out.old.items ++ constructors_parts (constructors row.now)) }
 {
     'row: for constr in row {
@@ -97,14 +97,14 @@ fn add_constructors<'a>(out: &mut Vec<Part<'a>>, row: &'a [Constr]) -> Result<()
 /// Adds the parts of a pattern.
 #[cycle(patterns)]
 #[tactic(auto, using(hm_names::proofs::Rows::pattern_falls))]
-fn add_pattern<'a>(out: &mut Vec<Part<'a>>, pat: &'a Pat) -> Result<(), AllocError>
+fn add_pattern<'a>(out: &mut Vec<ModulePart<'a>>, pat: &'a Pat) -> Result<(), AllocError>
     ensures { OnOk result (map part_of out.new.items ≡ map part_of out.old.items ++ pattern_parts pat.now) }
 {
     match &pat.kind {
         PatKind::Var(_) => Ok(()),
         PatKind::Bound(_, inner) => Ok(add_pattern(out, inner)?),
         PatKind::Con(name, args) => {
-            add_part(out, Part::Pattern(name, args))?;
+            add_part(out, ModulePart::Pattern(name, args))?;
             add_patterns(out, args)?;
             Ok(())
         }
@@ -119,7 +119,7 @@ fn add_pattern<'a>(out: &mut Vec<Part<'a>>, pat: &'a Pat) -> Result<(), AllocErr
 /// Adds the parts of a row of patterns.
 #[cycle(patterns)]
 #[tactic(auto, using(hm_names::proofs::Rows::pattern_falls))]
-fn add_patterns<'a>(out: &mut Vec<Part<'a>>, row: &'a [Pat]) -> Result<(), AllocError>
+fn add_patterns<'a>(out: &mut Vec<ModulePart<'a>>, row: &'a [Pat]) -> Result<(), AllocError>
     ensures { OnOk result (map part_of out.new.items ≡ map part_of out.old.items ++ patterns_parts (patterns row.now)) }
 {
     'row: for pat in row {
@@ -129,31 +129,31 @@ fn add_patterns<'a>(out: &mut Vec<Part<'a>>, row: &'a [Pat]) -> Result<(), Alloc
 }
 
 /// Adds the parts of the patterns of a clause or a lambda, and the patterns. What is added up to the next end is in their scope.
-fn add_head<'a>(out: &mut Vec<Part<'a>>, pats: &'a [Pat]) -> Result<(), AllocError>
+fn add_head<'a>(out: &mut Vec<ModulePart<'a>>, pats: &'a [Pat]) -> Result<(), AllocError>
     ensures { OnOk result (map part_of out.new.items ≡ map part_of out.old.items ++ head_parts (patterns pats.now)) }
 {
     add_patterns(out, pats)?;
-    add_part(out, Part::Head(pats))?;
+    add_part(out, ModulePart::Head(pats))?;
     Ok(())
 }
 
 /// Adds the parts of the pattern of an alternative or a pattern binding, and the pattern.
-fn add_alone<'a>(out: &mut Vec<Part<'a>>, pat: &'a Pat) -> Result<(), AllocError>
+fn add_alone<'a>(out: &mut Vec<ModulePart<'a>>, pat: &'a Pat) -> Result<(), AllocError>
     ensures { OnOk result (map part_of out.new.items ≡ map part_of out.old.items ++ head_parts (more_patterns pat.now no_patterns)) }
 {
     add_pattern(out, pat)?;
-    add_part(out, Part::Alone(pat))?;
+    add_part(out, ModulePart::Alone(pat))?;
     Ok(())
 }
 
 /// Adds the parts of an expression.
 #[cycle(exprs)]
-fn add_expr<'a>(out: &mut Vec<Part<'a>>, expr: &'a Expr) -> Result<(), AllocError>
+fn add_expr<'a>(out: &mut Vec<ModulePart<'a>>, expr: &'a Expr) -> Result<(), AllocError>
     ensures { OnOk result (map part_of out.new.items ≡ map part_of out.old.items ++ expression_parts expr.now) }
 {
     match &expr.kind {
-        ExprKind::Var(name) => Ok(add_part(out, Part::Use(Role::Variable, name))?),
-        ExprKind::Con(name) => Ok(add_part(out, Part::Use(Role::Constructor, name))?),
+        ExprKind::Var(name) => Ok(add_part(out, ModulePart::Use(Role::Variable, name))?),
+        ExprKind::Con(name) => Ok(add_part(out, ModulePart::Use(Role::Constructor, name))?),
         ExprKind::Literal(_) => Ok(()),
         ExprKind::Apply(function, argument) => {
             add_expr(out, function)?;
@@ -163,13 +163,13 @@ fn add_expr<'a>(out: &mut Vec<Part<'a>>, expr: &'a Expr) -> Result<(), AllocErro
         ExprKind::Lambda(pats, body) => {
             add_head(out, pats)?;
             add_expr(out, body)?;
-            add_part(out, Part::End)?;
+            add_part(out, ModulePart::End)?;
             Ok(())
         }
         ExprKind::Let(decls, body) => {
             add_list(out, decls)?;
             add_expr(out, body)?;
-            add_part(out, Part::End)?;
+            add_part(out, ModulePart::End)?;
             Ok(())
         }
         ExprKind::If(condition, yes, no) => {
@@ -196,7 +196,7 @@ fn add_expr<'a>(out: &mut Vec<Part<'a>>, expr: &'a Expr) -> Result<(), AllocErro
 /// Adds the parts of a row of expressions.
 #[cycle(exprs)]
 #[tactic(auto, using(hm_names::proofs::Rows::expression_falls))]
-fn add_exprs<'a>(out: &mut Vec<Part<'a>>, row: &'a [Expr]) -> Result<(), AllocError>
+fn add_exprs<'a>(out: &mut Vec<ModulePart<'a>>, row: &'a [Expr]) -> Result<(), AllocError>
     ensures { OnOk result (map part_of out.new.items ≡ map part_of out.old.items ++ expressions_parts (expressions row.now)) }
 {
     'row: for expr in row {
@@ -208,25 +208,25 @@ fn add_exprs<'a>(out: &mut Vec<Part<'a>>, row: &'a [Expr]) -> Result<(), AllocEr
 /// Adds the parts of a row of alternatives.
 #[cycle(exprs)]
 #[tactic(auto, using(hm_names::proofs::Rows::alternative_falls))]
-fn add_alts<'a>(out: &mut Vec<Part<'a>>, row: &'a [Alt]) -> Result<(), AllocError>
+fn add_alts<'a>(out: &mut Vec<ModulePart<'a>>, row: &'a [Alt]) -> Result<(), AllocError>
     ensures { OnOk result (map part_of out.new.items ≡ map part_of out.old.items ++ alternatives_parts (alternatives row.now)) }
 {
     'row: for alt in row {
         add_alone(out, &alt.pat)?;
         add_rhs(out, &alt.rhs)?;
-        add_part(out, Part::End)?;
+        add_part(out, ModulePart::End)?;
     }
     Ok(())
 }
 
 /// Adds the parts of a right side, those of its `where` first.
 #[cycle(exprs)]
-fn add_rhs<'a>(out: &mut Vec<Part<'a>>, rhs: &'a Rhs) -> Result<(), AllocError>
+fn add_rhs<'a>(out: &mut Vec<ModulePart<'a>>, rhs: &'a Rhs) -> Result<(), AllocError>
     ensures { OnOk result (map part_of out.new.items ≡ map part_of out.old.items ++ right_side_parts rhs.now) }
 {
     add_list(out, &rhs.local)?;
     add_bodies(out, &rhs.parts)?;
-    add_part(out, Part::End)?;
+    add_part(out, ModulePart::End)?;
     Ok(())
 }
 
@@ -234,7 +234,7 @@ fn add_rhs<'a>(out: &mut Vec<Part<'a>>, rhs: &'a Rhs) -> Result<(), AllocError>
 #[cycle(exprs)]
 #[tactic(auto, using(hm_names::proofs::Rows::part_falls))]
 fn add_bodies<'a>(
-    out: &mut Vec<Part<'a>>,
+    out: &mut Vec<ModulePart<'a>>,
     row: &'a [(Option<Expr>, Expr)],
 ) -> Result<(), AllocError>
     ensures { OnOk result (map part_of out.new.items ≡ map part_of out.old.items ++ bodies_of_parts row.now) }
@@ -248,7 +248,7 @@ fn add_bodies<'a>(
 
 /// Adds the parts of a guard, if there is one.
 #[cycle(exprs)]
-fn add_guard<'a>(out: &mut Vec<Part<'a>>, guard: &'a Option<Expr>) -> Result<(), AllocError>
+fn add_guard<'a>(out: &mut Vec<ModulePart<'a>>, guard: &'a Option<Expr>) -> Result<(), AllocError>
     ensures { OnOk result (map part_of out.new.items ≡ map part_of out.old.items ++ guard_parts guard.now) }
 {
     match guard {
@@ -260,10 +260,10 @@ fn add_guard<'a>(out: &mut Vec<Part<'a>>, guard: &'a Option<Expr>) -> Result<(),
 /// Adds a declaration list and its parts.
 #[cycle(exprs)]
 #[tactic(auto, using(hm_names::proofs::Rows::declaration_falls))]
-fn add_list<'a>(out: &mut Vec<Part<'a>>, decls: &'a [Decl]) -> Result<(), AllocError>
+fn add_list<'a>(out: &mut Vec<ModulePart<'a>>, decls: &'a [Decl]) -> Result<(), AllocError>
     ensures { OnOk result (map part_of out.new.items ≡ map part_of out.old.items ++ module_parts decls.now) }
 {
-    add_part(out, Part::List(decls))?;
+    add_part(out, ModulePart::List(decls))?;
     'row: for decl in decls {
         add_decl(out, decl)?;
     }
@@ -272,7 +272,7 @@ fn add_list<'a>(out: &mut Vec<Part<'a>>, decls: &'a [Decl]) -> Result<(), AllocE
 
 /// Adds the parts of a declaration.
 #[cycle(exprs)]
-fn add_decl<'a>(out: &mut Vec<Part<'a>>, decl: &'a Decl) -> Result<(), AllocError>
+fn add_decl<'a>(out: &mut Vec<ModulePart<'a>>, decl: &'a Decl) -> Result<(), AllocError>
     ensures { OnOk result (map part_of out.new.items ≡ map part_of out.old.items ++ declaration_parts decl.now) }
 {
     match &decl.kind {
@@ -281,17 +281,17 @@ fn add_decl<'a>(out: &mut Vec<Part<'a>>, decl: &'a Decl) -> Result<(), AllocErro
             constrs,
             ..
         } => {
-            add_part(out, Part::Parameters(params))?;
+            add_part(out, ModulePart::Parameters(params))?;
             add_constructors(out, constrs)?;
             Ok(())
         }
         DeclKind::Newtype { params, constr, .. } => {
-            add_part(out, Part::Parameters(params))?;
+            add_part(out, ModulePart::Parameters(params))?;
             add_constructor(out, constr)?;
             Ok(())
         }
         DeclKind::Synonym { params, ty, .. } => {
-            add_part(out, Part::Parameters(params))?;
+            add_part(out, ModulePart::Parameters(params))?;
             add_type(out, ty)?;
             Ok(())
         }
@@ -299,12 +299,12 @@ fn add_decl<'a>(out: &mut Vec<Part<'a>>, decl: &'a Decl) -> Result<(), AllocErro
         DeclKind::Clause { pats, rhs, .. } => {
             add_head(out, pats)?;
             add_rhs(out, rhs)?;
-            add_part(out, Part::End)?;
+            add_part(out, ModulePart::End)?;
             Ok(())
         }
         DeclKind::Pattern { pat, rhs, .. } => {
             add_alone(out, pat)?;
-            add_part(out, Part::End)?;
+            add_part(out, ModulePart::End)?;
             add_rhs(out, rhs)?;
             Ok(())
         }
@@ -312,7 +312,7 @@ fn add_decl<'a>(out: &mut Vec<Part<'a>>, decl: &'a Decl) -> Result<(), AllocErro
 }
 
 /// Returns the parts of a module. A declaration list and patterns are before what is in their scope, and an end is after that; there is none for the module's own list.
-pub(crate) fn parts_of(alloc: Global, program: &Module) -> Result<Vec<Part<'_>>, AllocError>
+pub(crate) fn parts_of(alloc: Global, program: &Module) -> Result<Vec<ModulePart<'_>>, AllocError>
     ensures { IfOk result (λ parts. map part_of parts.items ≡ module_parts program.now.decls) }
 {
     let mut parts = Vec::new(alloc);

@@ -6,7 +6,7 @@ ghost use Rattle.hm_messages_details.specs.Parts.{IsPatternBoundIn, part_of};
 ghost use Rattle.hm_messages_details.specs.PatternBindings.{HasPatternBound, HasPatternOf, IsPatternBound, IsPatternOf};
 
 use crate::firsts::is_among;
-use crate::parts::{Part, parts_of};
+use crate::parts::{ModulePart, parts_of};
 use hm_names::{Fault, LentNames, add_pattern};
 use hm_scope_resolve::signed_names;
 use hm_syntax::{Decl, DeclKind, Module, Name};
@@ -75,10 +75,10 @@ fn is_bound_in_list(alloc: Global, fault: &Fault, decls: &[Decl]) -> Result<bool
 }
 
 /// Returns whether a fault is at a signature of a part, and a pattern of this part binds its name.
-fn is_bound_in(alloc: Global, fault: &Fault, part: Part<'_>) -> Result<bool, AllocError>
+fn is_bound_in(alloc: Global, fault: &Fault, part: ModulePart<'_>) -> Result<bool, AllocError>
     ensures { IfOk result (λ is. is ≡ true → IsPatternBoundIn (part_of part.entry) fault.now) }
 {
-    let Part::List(decls) = part else {
+    let ModulePart::List(decls) = part else {
         return Ok(false);
     };
     Ok(is_bound_in_list(alloc, fault, decls)?)

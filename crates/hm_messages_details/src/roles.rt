@@ -7,7 +7,7 @@ ghost use Rattle.hm_messages_details.specs.Parts.{IsPartRole, module_parts, part
 ghost use Rattle.hm_messages_details.specs.Roles.{HasRole, IsExportedAs, IsRoleAt, IsRoleIn};
 
 use crate::firsts::is_at;
-use crate::parts::Part;
+use crate::parts::ModulePart;
 use crate::role::Role;
 use hm_names::Fault;
 use hm_syntax::{Export, Module, Name};
@@ -23,23 +23,23 @@ fn role_at(fault: &Fault, name: &Name, role: Role) -> Option<Role>
 }
 
 /// Returns the role of the name of a fault in a part, if the fault is at the part's own name.
-fn role_in_part(fault: &Fault, part: Part<'_>) -> Option<Role>
+fn role_in_part(fault: &Fault, part: ModulePart<'_>) -> Option<Role>
     ensures { IfSome result (IsPartRole (part_of part.entry) fault.now) }
 {
     match part {
-        Part::Use(role, name) => role_at(fault, name, role),
-        Part::Pattern(name, _) => role_at(fault, name, Role::Constructor),
-        Part::Type(name, _) => role_at(fault, name, Role::TypeConstructor),
-        Part::List(_) => None,
-        Part::Head(_) => None,
-        Part::Alone(_) => None,
-        Part::Parameters(_) => None,
-        Part::End => None,
+        ModulePart::Use(role, name) => role_at(fault, name, role),
+        ModulePart::Pattern(name, _) => role_at(fault, name, Role::Constructor),
+        ModulePart::Type(name, _) => role_at(fault, name, Role::TypeConstructor),
+        ModulePart::List(_) => None,
+        ModulePart::Head(_) => None,
+        ModulePart::Alone(_) => None,
+        ModulePart::Parameters(_) => None,
+        ModulePart::End => None,
     }
 }
 
 /// Returns the role of the name of a fault in the parts of a module, if the fault is in a tree there.
-fn role_in_trees(parts: &[Part<'_>], fault: &Fault) -> Option<Role>
+fn role_in_trees(parts: &[ModulePart<'_>], fault: &Fault) -> Option<Role>
     ensures { IfSome result (λ r. («module» : ModuleTree) → map part_of parts.now ≡ module_parts «module».decls
         → Somewhere «module» (λ xs k. IsRoleAt fault.now r k)) }
 {
@@ -84,7 +84,7 @@ fn role_in_exports(program: &Module, fault: &Fault) -> Option<Role>
 }
 
 /// Returns what the name of a fault stands for at its place, if it has a role there. `parts` are those of the module.
-pub(crate) fn role_of(program: &Module, parts: &[Part<'_>], fault: &Fault) -> Option<Role>
+pub(crate) fn role_of(program: &Module, parts: &[ModulePart<'_>], fault: &Fault) -> Option<Role>
     requires { map part_of parts.now ≡ module_parts program.now.decls }
     ensures { IfSome result (HasRole program.now fault.now) }
 {

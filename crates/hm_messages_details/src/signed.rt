@@ -8,7 +8,7 @@ ghost use Rattle.hm_messages_details.specs.Parts.{IsNearBindingIn, part_of};
 
 use crate::firsts::is_among;
 use crate::nearest::is_near;
-use crate::parts::{Part, parts_of};
+use crate::parts::{ModulePart, parts_of};
 use hm_names::{Fault, LentNames};
 use hm_scope_resolve::{binding_names, signed_names};
 use hm_scope_tables::TextSet;
@@ -63,10 +63,14 @@ fn near_in_list<'a>(
 }
 
 /// Returns a near name that a part binds, if a fault is at one of its signatures.
-fn near_in<'a>(alloc: Global, fault: &Fault, part: Part<'a>) -> Result<Option<&'a str>, AllocError>
+fn near_in<'a>(
+    alloc: Global,
+    fault: &Fault,
+    part: ModulePart<'a>,
+) -> Result<Option<&'a str>, AllocError>
     ensures { IfOk result (λ found. IfSome found (λ x. IsNearBindingIn (part_of part.entry) fault.now x.now)) }
 {
-    let Part::List(decls) = part else {
+    let ModulePart::List(decls) = part else {
         return Ok(None);
     };
     Ok(near_in_list(alloc, fault, decls)?)

@@ -92,7 +92,7 @@ fn exchange(
     ensures { IfOk result (λ changes. map changed_of changes.items ≡ map (changed_in source.now) (exchange_edits source.now first second)) }
 {
     let in_front = bracketed(alloc, source, second)?;
-    let behind = bracketed(alloc, source, first)?;
+    let bracketed_text = bracketed(alloc, source, first)?;
     let first = Edit {
         from: first.from,
         to: first.to,
@@ -101,7 +101,7 @@ fn exchange(
     let second = Edit {
         from: second.from,
         to: second.to,
-        text: behind.as_slice(),
+        text: bracketed_text.as_slice(),
     };
     Ok(two(alloc, source, first, second)?)
 }

@@ -38,9 +38,9 @@ pub record AreColumnsAt (source : List ℕ) (place : Place) (columns : Columns) 
   pub utf16_are : columns.utf16 ≡ utf16_units front + 1
 
 -- the place after the mark at a place
-pub record IsMarkEnd (source : List ℕ) (place behind : Place) : Type 0 where
+pub record IsMarkEnd (source : List ℕ) (place after : Place) : Type 0 where
   pub front : List ℕ
   pub back : List ℕ
   pub line : IsLineAround source place front back
-  pub line_is : behind.line ≡ place.line
-  pub column_is : behind.column ≡ place.column + marked back
+  pub line_is : after.line ≡ place.line
+  pub column_is : after.column ≡ place.column + marked back

@@ -159,7 +159,7 @@ impl<'a> SourceLines<'a> {
 
     /// Returns the columns of the place after the mark at a place, on the same line, if the place is in the source.
     pub fn mark_end(&self, place: Place) -> Option<Columns>
-        ensures some { IfSome result (λ columns. (behind : SourcePlace) × IsMarkEnd self.now place behind × AreColumnsAt self.now behind columns) }
+        ensures some { IfSome result (λ columns. (after : SourcePlace) × IsMarkEnd self.now place after × AreColumnsAt self.now after columns) }
         ensures none { IfNone result (IsPlaceIn self.now place → ⊥) }
     {
         let Spot { start, end, offset } = self.spot(place)?;

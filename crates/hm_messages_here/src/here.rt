@@ -8,7 +8,7 @@ ghost use Rattle.hm_messages_here.specs.TypesHere.{HasTypeAt, HasTypeHere};
 ghost use Rattle.hm_messages_types.specs.Aliases.{alias_of as named_type};
 ghost use Rattle.hm_messages_types.specs.Shown.{IsFolded};
 
-use crate::pairs::{Pair, pair_of};
+use crate::pairs::{TypePair, pair_of};
 use crate::patterns::tie_of;
 use crate::targets::target_of;
 use crate::typed::typed_in;
@@ -16,7 +16,7 @@ use crate::without::Whole;
 use crate::written::WrittenName;
 use hm_messages_changes::{Local, SourceRange, Span, part_of};
 use hm_messages_copies::{
-    Copied, Declared, Inside, NamePart, Point, Spot, Target, copies_of, declarations_around,
+    Copied, Declared, Inside, NamePart, Point, Target, TypeSpot, copies_of, declarations_around,
     spot_of, with_function, with_heads,
 };
 use hm_messages_outline::{Lexed, declarations_of, number_at, one};
@@ -39,7 +39,7 @@ pub struct TypeHere {
 fn shown_pair(
     alloc: Global,
     definition: &str,
-    pair: &Pair,
+    pair: &TypePair,
     aliases: &[Alias],
 ) -> Result<TypeHere, AllocError>
     ensures definition { IfOk result (λ shown. string_bytes shown.definition ≡ definition.now) }
@@ -127,7 +127,7 @@ fn type_around(
     question: &Question<'_>,
     lexed: &Lexed<'_>,
     around: &[Declared],
-    spot: Spot,
+    spot: TypeSpot,
 ) -> Result<Option<TypeHere>, AllocError>
     ensures { IfOk result (λ found. IfSome found (λ t. HasTypeHere question.now.source.now question.now.name.now (map arc_value question.now.imports.now)
         (point_part spot.point) (string_bytes t.definition) (string_bytes t.own) (string_bytes t.here))) }

@@ -13,7 +13,7 @@ use std::alloc::{AllocError, Global};
 
 /// The texts of the type of a definition and of that of a part of it.
 #[derive(Drop)]
-pub(crate) struct Pair {
+pub(crate) struct TypePair {
     pub own: String,
     pub here: String,
 }
@@ -76,7 +76,7 @@ fn taken_by(alloc: Global, body: &Ty) -> Result<Option<Taken<'_>>, AllocError>
 
 // Why: docs/DECISIONS.md, "The text of two types".
 /// Returns the texts of the two types that a function with this scheme takes, if the letters of the first are in order.
-pub(crate) fn pair_of(alloc: Global, scheme: &Scheme) -> Result<Option<Pair>, AllocError>
+pub(crate) fn pair_of(alloc: Global, scheme: &Scheme) -> Result<Option<TypePair>, AllocError>
     ensures { IfOk result (λ found. IfSome found (λ pair. AreTextsOf scheme.now (string_bytes pair.own) (string_bytes pair.here))) }
 {
     let Some(taken) = taken_by(alloc, scheme.body())? else {
@@ -88,7 +88,7 @@ pub(crate) fn pair_of(alloc: Global, scheme: &Scheme) -> Result<Option<Pair>, Al
     let whole = scheme_text(alloc, scheme)?;
     let front = format!(in alloc; "({own}, ")?;
     match between(alloc, whole.as_bytes(), front.as_bytes(), b") -> ()")? {
-        Some(here) => Ok(Some(Pair { own, here })),
+        Some(here) => Ok(Some(TypePair { own, here })),
         None => Ok(None),
     }
 }

@@ -19,7 +19,7 @@ const DECLARED: &str = "part'types";
 
 /// A scheme that a module exports, and its names for types.
 #[derive(Drop)]
-pub(crate) struct Typed {
+pub(crate) struct ExportedScheme {
     pub scheme: Scheme,
     pub aliases: Vec<Alias>,
 }
@@ -47,7 +47,7 @@ fn typed_by(
     lexed: &Lexed<'_>,
     interface: &Interface,
     variable: &str,
-) -> Result<Option<Typed>, AllocError>
+) -> Result<Option<ExportedScheme>, AllocError>
     ensures scheme { IfOk result (λ found. IfSome found (λ typed. IsExported interface.now variable.now typed.scheme)) }
     ensures names { IfOk result (λ found. IfSome found (λ typed. All (λ a. IsName question.now.name.now interface.now (named_type a)) typed.aliases.items)) }
 {
@@ -55,7 +55,7 @@ fn typed_by(
         return Ok(None);
     };
     let aliases = aliases_in(alloc, question, lexed, interface)?;
-    Ok(Some(Typed { scheme, aliases }))
+    Ok(Some(ExportedScheme { scheme, aliases }))
 }
 
 /// Returns the scheme with which the module of a question exports the declared variable in a changed source, and its names for types, if it is good there.
@@ -64,7 +64,7 @@ pub(crate) fn typed_in(
     question: &Question<'_>,
     lexed: &Lexed<'_>,
     changed: &[u8],
-) -> Result<Option<Typed>, AllocError>
+) -> Result<Option<ExportedScheme>, AllocError>
     ensures scheme { IfOk result (λ found. IfSome found (λ typed. HasTypes changed.now question.now.name.now (map arc_value question.now.imports.now)
         typed.scheme)) }
     ensures names { IfOk result (λ found. IfSome found (λ typed. ExportsNames changed.now question.now.name.now (map arc_value question.now.imports.now)

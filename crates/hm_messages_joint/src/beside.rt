@@ -190,7 +190,7 @@ fn smallest_beside(
 
 /// A definition with a type fault.
 #[derive(Clone, Copy)]
-pub(crate) struct Faulty<'a, 'f> {
+pub(crate) struct FaultyDefinition<'a, 'f> {
     pub fault: &'a TypeFault<'f>,
     pub definition: Run,
 }
@@ -199,7 +199,7 @@ pub(crate) struct Faulty<'a, 'f> {
 fn part_beside(
     alloc: Global,
     searched: &Searched<'_, '_>,
-    faulty: Faulty<'_, '_>,
+    faulty: FaultyDefinition<'_, '_>,
     other: TermPart,
     effort: &mut Effort,
 ) -> Result<Option<TermPart>, AllocError> {
@@ -249,7 +249,7 @@ fn in_order(one: TermPart, other: TermPart) -> FoundJoint {
 pub(crate) fn refined(
     alloc: Global,
     searched: &Searched<'_, '_>,
-    faulty: Faulty<'_, '_>,
+    faulty: FaultyDefinition<'_, '_>,
     found: FoundJoint,
     effort: &mut Effort,
 ) -> Result<FoundJoint, AllocError> {

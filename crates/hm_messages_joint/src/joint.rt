@@ -4,7 +4,7 @@ ghost use Rattle.std.specs.Arc.{arc_value};
 ghost use Rattle.hm_messages_joint.specs.Joints.{AreApart, HasTypeWithBoth, NeedsBoth};
 ghost use Rattle.hm_messages_trials.specs.Limits.{IsUsedUp};
 
-use crate::beside::{Faulty, refined, wholes_of};
+use crate::beside::{FaultyDefinition, refined, wholes_of};
 use crate::judging::{is_typed_with_both, is_untyped_without};
 use crate::least::{Sought, least_set, part_moved};
 use crate::parts::{FoundJoint, Joint, part_at, range_of};
@@ -119,7 +119,7 @@ fn confirmed(
 fn first_confirmed(
     alloc: Global,
     searched: &Searched<'_, '_>,
-    faulty: Faulty<'_, '_>,
+    faulty: FaultyDefinition<'_, '_>,
     found: FoundJoint,
     effort: &mut Effort,
 ) -> Result<Option<Joint>, AllocError>
@@ -208,7 +208,7 @@ pub fn joint_of(
     let Some(parts) = found_in_cut(alloc, &searched, &cut, sought, effort)? else {
         return Ok(None);
     };
-    let faulty = Faulty {
+    let faulty = FaultyDefinition {
         fault: found,
         definition: binding,
     };

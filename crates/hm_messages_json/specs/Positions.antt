@@ -15,9 +15,9 @@ pub record IsPositionAt (source : List ℕ) (place : Place) (position : Position
 -- from the place to the one after what is marked there
 pub record IsRangeAt (source : List ℕ) (place : Place) (start end : Position) : Type 0 where
   pub start_at : IsPositionAt source place start
-  pub behind : Place
-  pub marked : IsMarkEnd source place behind
-  pub end_at : IsPositionAt source behind end
+  pub after : Place
+  pub marked : IsMarkEnd source place after
+  pub end_at : IsPositionAt source after end
 
 -- the range of the part, if there is one and its places are in the source
 abbrev pub IsRangeOf : List ℕ → Option Span → Option Range → Type 0

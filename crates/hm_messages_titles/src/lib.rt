@@ -3,4 +3,4 @@
 
 mod titles;
 
-pub use crate::titles::{Named, fault_title, hidden_title};
+pub use crate::titles::{NamedFault, fault_title, hidden_title};

@@ -10,7 +10,7 @@ use std::alloc::{AllocError, Global};
 
 /// The name that a fault is about, as it is written, with the detail of the fault.
 #[derive(Clone, Copy)]
-pub struct Named<'a> {
+pub struct NamedFault<'a> {
     pub name: &'a str,
     pub detail: Detail<'a>,
     /// The position of the place that the detail names, if it names one.
@@ -250,7 +250,7 @@ fn first_text(alloc: Global, other: Option<Position>) -> Result<String, AllocErr
 }
 
 /// Returns what is wrong, with the detail beyond the kind and the name.
-pub fn fault_title(alloc: Global, kind: Kind, named: &Named<'_>) -> Result<String, AllocError>
+pub fn fault_title(alloc: Global, kind: Kind, named: &NamedFault<'_>) -> Result<String, AllocError>
     ensures { IfOk result (λ text. string_bytes text ≡ fault_title_bytes kind named.now.name.now (known_of named.now.detail) named.now.other) }
 {
     let mut text = kind_title(alloc, kind, named.name)?;

@@ -107,8 +107,8 @@ fn changes_for(
     let mut found = Vec::new(alloc);
     for is_first in [true, false] {
         for change in &all {
-            let is_wanted = is_first || are_all_tried;
-            if is_wanted && is_strong(searched.lexed, part, change) == is_first {
+            let is_tried = is_first || are_all_tried;
+            if is_tried && is_strong(searched.lexed, part, change) == is_first {
                 found.push(*change)?;
             }
         }

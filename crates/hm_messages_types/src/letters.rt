@@ -194,8 +194,8 @@ fn is_signed_with(
     }
     let here = unspaced(alloc, &source[from..to])?;
     let whole = format!(in alloc; "{definition}::{ty}")?;
-    let wanted = unspaced(alloc, whole.as_bytes())?;
-    Ok(here.as_slice() == wanted.as_slice())
+    let expected = unspaced(alloc, whole.as_bytes())?;
+    Ok(here.as_slice() == expected.as_slice())
 }
 
 /// Returns whether a word is a type variable.

@@ -4,7 +4,7 @@ ghost use Rattle.hm_service_completions.specs.Completions.{AreCompletionsAt, Are
 ghost use Rattle.hm_service_references.specs.Imported.{IsImported, interfaces_in};
 ghost use Rattle.hm_service_references.specs.Views.{known_of};
 
-use crate::modules::{Spot, module_at, own_interface};
+use crate::modules::{SourceLine, module_at, own_interface};
 use hm_run_sources::origins_of;
 use hm_scope_typed_names::{TypedName, Wanted, typed_names};
 use hm_service_places::Checked;
@@ -39,7 +39,7 @@ fn names_of(
 fn completions_at(
     alloc: Global,
     view: &View<'_>,
-    spot: &Spot<'_>,
+    spot: &SourceLine<'_>,
     prefix: &[u8],
 ) -> Result<Vec<TypedName>, AllocError>
     ensures { IfOk result (λ names. AreCompletionsAt (known_of view.now) spot.now.part.now spot.now.source spot.now.line prefix.now names.items) }
@@ -77,6 +77,6 @@ pub fn completions_of(
         origins: origins.as_slice(),
     };
     let part = checked.part.as_slice();
-    let spot = Spot { part, source, line };
+    let spot = SourceLine { part, source, line };
     Ok(completions_at(alloc, &view, &spot, prefix)?)
 }

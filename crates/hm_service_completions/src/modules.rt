@@ -8,14 +8,14 @@ use hm_types::Interface;
 
 /// A line of a source, from 1. `part` has the numbers in the held set of the sources that are checked.
 #[derive(Clone, Copy)]
-pub(crate) struct Spot<'a> {
+pub(crate) struct SourceLine<'a> {
     pub part: &'a [usize],
     pub source: usize,
     pub line: usize,
 }
 
 /// Returns whether a module is in the source, and its name is at or before the line.
-fn is_begun(view: &View<'_>, spot: &Spot<'_>, number: usize) -> bool
+fn is_begun(view: &View<'_>, spot: &SourceLine<'_>, number: usize) -> bool
     requires { number < length view.now.store.now.modules }
     ensures { IsTrue result ↔ IsBegun (known_of view.now) spot.now.part.now spot.now.source spot.now.line number }
 {
@@ -24,7 +24,7 @@ fn is_begun(view: &View<'_>, spot: &Spot<'_>, number: usize) -> bool
 }
 
 /// Returns the module of the source at the line: the last one whose name is at or before it.
-pub(crate) fn module_at(view: &View<'_>, spot: &Spot<'_>) -> Option<usize>
+pub(crate) fn module_at(view: &View<'_>, spot: &SourceLine<'_>) -> Option<usize>
     ensures some { IfSome result (λ number. IsModuleAt (known_of view.now) spot.now.part.now spot.now.source spot.now.line number) }
     ensures none { IfNone result (HasNoModule (known_of view.now) spot.now.part.now spot.now.source spot.now.line) }
 {

@@ -5,7 +5,7 @@ use mathlib.Core.Bool.{beq, not}
 use Rattle.hm_uses.specs.Uses.{Sense, local_variable, type_variable, an_entity, a_module, a_prefix, unbound, ambiguous}
 use Rattle.hm_uses_references.specs.SetNames.{IsSame, IsShared, SetName}
 use Rattle.hm_uses_references.proofs.Classes.{symmetric, transitive}
-use Rattle.hm_uses_renames.specs.declared.firsts.Spot.{Spot}
+use Rattle.hm_uses_renames.specs.declared.firsts.BindingPlace.{BindingPlace}
 use Rattle.hm_uses_renames.specs.Firsts.{ArePaired, IsPaired, spot_in, spot_of}
 use Rattle.hm_uses_renames.specs.Renames.{AreRenamed, Becomes, renamed, kept, IsKept, IsStill}
 
@@ -45,7 +45,7 @@ steady_back s t h = elim h [
   | inr w ↦ inr (w.1, w.0)
 ]
 
-bound_spot : (i : ℕ) (s : Sense) → is_bound s ≡ true → (x : Spot) × (spot_in i s ≡ Some x)
+bound_spot : (i : ℕ) (s : Sense) → is_bound s ≡ true → (x : BindingPlace) × (spot_in i s ≡ Some x)
 bound_spot i (local_variable l c) h = (record { number = i; line = l; column = c }, refl)
 bound_spot i (type_variable l c) h = (record { number = i; line = l; column = c }, refl)
 bound_spot i (an_entity e) h = absurd (cc)
@@ -64,7 +64,7 @@ one_number i j unbound h shared = absurd (cc)
 one_number i j ambiguous h shared = absurd (cc)
 
 -- names that mean the same have one spot
-one_spot : (m n : SetName) (x : Spot) → IsSame m n → is_bound m.used.sense ≡ true → spot_of m ≡ Some x → spot_of n ≡ Some x
+one_spot : (m n : SetName) (x : BindingPlace) → IsSame m n → is_bound m.used.sense ≡ true → spot_of m ≡ Some x → spot_of n ≡ Some x
 one_spot m n x same bound at =
     let number : m.number ≡ n.number = one_number m.number n.number m.used.sense bound same.shared in
     subst (λ (s : Sense). spot_in n.number s ≡ Some x) same.sense (subst (λ (i : ℕ). spot_in i m.used.sense ≡ Some x) number at)
@@ -88,7 +88,7 @@ stayed m n m' n' number_m number_n kind_m kind_n sense_m sense_n same = record {
 }
 
 -- meanings that are bound in a text: the table has one number for both
-bound_alike : (table : Spot → Option ℕ) (others : List SetName) (m n m' n' : SetName) → IsPaired table others m m' → IsPaired table others n n' → is_bound m.used.sense ≡ true → IsSame m n → IsSame m' n'
+bound_alike : (table : BindingPlace → Option ℕ) (others : List SetName) (m n m' n' : SetName) → IsPaired table others m m' → IsPaired table others n n' → is_bound m.used.sense ≡ true → IsSame m n → IsSame m' n'
 bound_alike table others m n m' n' pair_m pair_n bound same =
     let spot = bound_spot m.number m.used.sense bound in
     let a = pair_m spot.0 spot.1 in
@@ -100,7 +100,7 @@ bound_alike table others m n m' n' pair_m pair_n bound same =
 apart : (s t : Sense) → s ≡ t → is_bound s ≡ false → is_bound t ≡ true → ⊥
 apart s t e f g = let z : false ≡ true = sym f ∙ (ap is_bound e ∙ g) in absurd (cc)
 
-forward : (table : Spot → Option ℕ) (others : List SetName) (m n m' n' : SetName) → m'.number ≡ m.number → n'.number ≡ n.number → m'.used.mention.kind ≡ m.used.mention.kind → n'.used.mention.kind ≡ n.used.mention.kind
+forward : (table : BindingPlace → Option ℕ) (others : List SetName) (m n m' n' : SetName) → m'.number ≡ m.number → n'.number ≡ n.number → m'.used.mention.kind ≡ m.used.mention.kind → n'.used.mention.kind ≡ n.used.mention.kind
     → IsSteady m.used.sense m'.used.sense → IsSteady n.used.sense n'.used.sense → IsPaired table others m m' → IsPaired table others n n' → IsSame m n → IsSame m' n'
 forward table others m n m' n' number_m number_n kind_m kind_n steady_m steady_n pair_m pair_n same = elim steady_m [
   | inl a ↦ elim steady_n [
@@ -110,7 +110,7 @@ forward table others m n m' n' number_m number_n kind_m kind_n steady_m steady_n
   | inr a ↦ bound_alike table others m n m' n' pair_m pair_n a.0 same
 ]
 
-kept_alike : (new : List ℕ) (table later_table : Spot → Option ℕ) (names later : List SetName) (m n m' n' : SetName) → IsKept new m m' → IsKept new n n' → IsPaired table later m m' → IsPaired table later n n'
+kept_alike : (new : List ℕ) (table later_table : BindingPlace → Option ℕ) (names later : List SetName) (m n m' n' : SetName) → IsKept new m m' → IsKept new n n' → IsPaired table later m m' → IsPaired table later n n'
     → IsPaired later_table names m' m → IsPaired later_table names n' n → IsSame m n ↔ IsSame m' n'
 kept_alike new table later_table names later m n m' n' h k pair_m pair_n back_m back_n =
     let a = steady m.used.sense m'.used.sense h.means in
@@ -131,7 +131,7 @@ two_alike o r new m n m' n' (kept h x) (renamed k y) at_m at_n others =
     (λ same. absurd (h (transitive o n m k (symmetric m n same))), λ same. absurd (h (at_m.1 (transitive r n' m' (at_n.0 k) (symmetric m' n' same)))))
 two_alike o r new m n m' n' (kept h x) (kept k y) at_m at_n others = others x y
 
-pub all_renamed : (o r : SetName) (new : List ℕ) (names later : List SetName) (table later_table : Spot → Option ℕ) → length names ≡ length later
+pub all_renamed : (o r : SetName) (new : List ℕ) (names later : List SetName) (table later_table : BindingPlace → Option ℕ) → length names ≡ length later
     → ((i : ℕ) (d : SetName) → i < length names → Becomes o new (get_or names i d) (get_or later i d)) → ((i : ℕ) (d : SetName) → i < length names → IsSame o (get_or names i d) ↔ IsSame r (get_or later i d))
     → ArePaired table names later → ArePaired later_table later names → AreRenamed o new names later
 all_renamed o r new names later table later_table size each one pairs backs = record {

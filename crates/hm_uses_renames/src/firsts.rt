@@ -9,7 +9,7 @@ use std::collections::HashMap;
 
 /// Where a local variable or a type variable is bound: the number of the module, and the place.
 #[derive(Clone, Copy, Hash, PartialEq, Eq)]
-pub(crate) struct Spot {
+pub(crate) struct BindingPlace {
     number: usize,
     line: u32,
     column: u32,
@@ -18,12 +18,12 @@ pub(crate) struct Spot {
 /// A name for each spot of a list of names, by its number in the list.
 #[derive(Drop)]
 pub(crate) struct Firsts {
-    table: HashMap<Spot, usize>,
+    table: HashMap<BindingPlace, usize>,
 }
 
 impl Firsts {
     /// Returns the number of a name whose meaning is bound at a spot.
-    fn at(&self, spot: Spot) -> Option<usize>
+    fn at(&self, spot: BindingPlace) -> Option<usize>
         ensures { result ≡ number_at self.now spot }
     {
         match self.table.get(&spot) {
@@ -34,17 +34,17 @@ impl Firsts {
 }
 
 /// Returns where the meaning of a name is bound, if a text binds it.
-fn spot_of(one: &SetUse<'_>) -> Option<Spot>
+fn spot_of(one: &SetUse<'_>) -> Option<BindingPlace>
     ensures { result ≡ spot_of one.now }
 {
     let number = one.number();
     match one.used().meaning() {
-        Meaning::Local(place) => Some(Spot {
+        Meaning::Local(place) => Some(BindingPlace {
             number,
             line: place.line,
             column: place.column,
         }),
-        Meaning::TypeVariable(place) => Some(Spot {
+        Meaning::TypeVariable(place) => Some(BindingPlace {
             number,
             line: place.line,
             column: place.column,

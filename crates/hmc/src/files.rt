@@ -33,7 +33,7 @@ enum Input {
 
 /// An open source that keeps the reason of the last failed read.
 #[derive(Drop)]
-pub(crate) struct Opened<'a> {
+pub(crate) struct OpenSource<'a> {
     rt: &'a HostRuntime,
     input: Input,
     /// Its number, from 0.
@@ -52,20 +52,20 @@ fn open_file(rt: &HostRuntime, name: &str, number: usize) -> io::Result<Input> {
     Ok(Input::Later(String::from_str(alloc, name)?))
 }
 
-impl<'a> Opened<'a> {
+impl<'a> OpenSource<'a> {
     /// Opens the source with this name.
     pub(crate) fn open(
         rt: &'a HostRuntime,
         name: &str,
         number: usize,
         failure: &'a Cell<Option<Failure>>,
-    ) -> io::Result<Opened<'a>> {
+    ) -> io::Result<OpenSource<'a>> {
         let input = if name == STDIN {
             Input::Stdin(rt.stdin())
         } else {
             open_file(rt, name, number)?
         };
-        Ok(Opened {
+        Ok(OpenSource {
             rt,
             input,
             number,
@@ -93,7 +93,7 @@ impl<'a> Opened<'a> {
     }
 }
 
-impl Read for Opened<'_> {
+impl Read for OpenSource<'_> {
     fn read(&mut self, buf: &mut [u8]) -> io::Result<usize> {
         let answer = self.read_input(buf);
         let failure = match &answer {

@@ -2,7 +2,7 @@
 //!
 //! A folder stands for its files `*.hs`, and `@FILE` for the names in a file. Any other word is the name of a source.
 
-use hmc_words::Asked;
+use hmc_words::CommandLine;
 use std::alloc::{AllocError, AllocFailed};
 use std::fmt::{Display, Formatter};
 use std::fs::{DirEntry, File, FileType};
@@ -239,7 +239,7 @@ pub(crate) fn name_of<'a>(name: &'a str, stdin_name: Option<&'a str>) -> &'a str
 }
 
 /// Returns the name of standard input in messages, if it has one.
-pub(crate) fn stdin_name(asked: &Asked) -> Option<&str> {
+pub(crate) fn stdin_name(asked: &CommandLine) -> Option<&str> {
     match &asked.stdin_name {
         Some(name) => Some(name.as_str()),
         None => None,

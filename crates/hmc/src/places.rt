@@ -3,12 +3,12 @@ ghost use Rattle.std.specs.Prelude.{All};
 ghost use Rattle.hm_run_io.specs.Watching.{IsFresh};
 
 use crate::names::{name_of, stdin_name};
-use crate::quiet::Output;
+use crate::quiet::StandardOutput;
 use hm_build::Options;
 use hm_build_place_runs::{AskedPlace, PlaceFormat, PlaceQuestion, run_place};
 use hm_run_io::{RunFault, Watched};
 use hm_run_sources::{Status, Trees};
-use hmc_words::Asked;
+use hmc_words::CommandLine;
 use std::alloc::{AllocError, Global};
 use std::fmt;
 use std::fmt::{Display, Formatter};
@@ -62,7 +62,7 @@ fn source_in(sources: &[String], stdin_name: Option<&str>, file: &str) -> Option
 }
 
 /// Returns the format of what is printed: a JSON object if messages are such objects.
-fn format_of(asked: &Asked) -> PlaceFormat {
+fn format_of(asked: &CommandLine) -> PlaceFormat {
     if asked.json {
         PlaceFormat::Object
     } else {
@@ -74,7 +74,7 @@ fn format_of(asked: &Asked) -> PlaceFormat {
 pub(crate) fn question_in(
     names: Vec<Vec<u8>>,
     sources: &[String],
-    asked: &Asked,
+    asked: &CommandLine,
     word: &str,
 ) -> Result<PlaceQuestion, PlaceFault> {
     let Some((front, column)) = word.rsplit_once(':') else {
@@ -104,7 +104,7 @@ pub(crate) fn print_place<T: Threads + Wait + Sync, R: Read + Drop>(
     threads: &T,
     mut readers: Vec<Watched<R>>,
     question: PlaceQuestion,
-    asked: &Asked,
+    asked: &CommandLine,
 ) -> Result<Status, RunFault>
     requires { All IsFresh readers.items }
 {
@@ -113,7 +113,7 @@ pub(crate) fn print_place<T: Threads + Wait + Sync, R: Read + Drop>(
         journal: false,
         trees: Trees::Left,
     };
-    let mut writer = Watched::new(Output::of(rt, asked.quiet));
+    let mut writer = Watched::new(StandardOutput::of(rt, asked.quiet));
     run_place(
         threads,
         rt.alloc(),

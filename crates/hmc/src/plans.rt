@@ -2,7 +2,7 @@
 ghost use Rattle.std.specs.Prelude.{All, IfOk};
 ghost use Rattle.hm_run_io.specs.Watching.{IsFresh};
 
-use crate::quiet::Output;
+use crate::quiet::StandardOutput;
 use hm_build::{Outputs, RunOptions, run_with_messages};
 use hm_messages::count_text;
 use hm_run_io::{RunFault, Watched, read_all, write_text};
@@ -41,7 +41,7 @@ pub(crate) fn plan_explained<T: Threads + Wait + Sync, R: Read>(
     rt: &HostRuntime,
     threads: &T,
     readers: &mut [Watched<R>],
-    output: Output,
+    output: StandardOutput,
     run_options: RunOptions,
 ) -> Result<Status, RunFault>
     requires { All IsFresh readers.old }
@@ -63,7 +63,7 @@ pub(crate) fn plan_explained<T: Threads + Wait + Sync, R: Read>(
     }
     let mut refused = readers_of(alloc, texts.as_slice())?;
     let mut outputs = Outputs {
-        writer: Watched::new(Output::Nothing),
+        writer: Watched::new(StandardOutput::Nothing),
         errors: Watched::new(rt.stderr()),
     };
     let _ = run_with_messages(

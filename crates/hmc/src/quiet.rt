@@ -5,34 +5,34 @@ use std::io::{Stdout, Write};
 
 /// Standard output, or nothing.
 #[derive(Drop)]
-pub(crate) enum Output {
+pub(crate) enum StandardOutput {
     Stdout(Stdout),
     Nothing,
 }
 
-impl Output {
+impl StandardOutput {
     /// Returns standard output, or nothing for a quiet run.
-    pub(crate) fn of(rt: &HostRuntime, is_quiet: bool) -> Output {
+    pub(crate) fn of(rt: &HostRuntime, is_quiet: bool) -> StandardOutput {
         if is_quiet {
-            Output::Nothing
+            StandardOutput::Nothing
         } else {
-            Output::Stdout(rt.stdout())
+            StandardOutput::Stdout(rt.stdout())
         }
     }
 }
 
-impl Write for Output {
+impl Write for StandardOutput {
     fn write(&mut self, buf: &[u8]) -> io::Result<usize> {
         match self {
-            Output::Stdout(stdout) => stdout.write(buf),
-            Output::Nothing => Ok(buf.len()),
+            StandardOutput::Stdout(stdout) => stdout.write(buf),
+            StandardOutput::Nothing => Ok(buf.len()),
         }
     }
 
     fn flush(&mut self) -> io::Result<()> {
         match self {
-            Output::Stdout(stdout) => stdout.flush(),
-            Output::Nothing => Ok(()),
+            StandardOutput::Stdout(stdout) => stdout.flush(),
+            StandardOutput::Nothing => Ok(()),
         }
     }
 }

@@ -11,7 +11,7 @@ use std::alloc::{AllocError, Global};
 
 /// The options of a command line.
 #[derive(Debug, Drop)]
-pub struct Asked {
+pub struct CommandLine {
     /// The number of workers, 1 to 16.
     pub workers: usize,
     /// Whether the journal follows the report.
@@ -269,14 +269,14 @@ fn workers(matches: &ArgMatches<'_>) -> usize
 /// # Errors
 ///
 /// The error has the help or the version if these were requested. Otherwise it says why the words are refused, or that memory ran out.
-pub fn command_line(alloc: Global, words: &[String]) -> Result<Asked, Error>
+pub fn command_line(alloc: Global, words: &[String]) -> Result<CommandLine, Error>
     ensures least { IfOk result (λ asked. 0 < asked.workers) }
     ensures most { IfOk result (λ asked. asked.workers ≤ 16) }
 {
     let matches = command(alloc)?.try_get_matches_from(words)?;
     let json = matches.get_str("message-format") == Some("json");
     let listed = matches.get_str("report-format") == Some("json");
-    Ok(Asked {
+    Ok(CommandLine {
         workers: workers(&matches),
         journal: matches.get_flag("journal"),
         plan: matches.get_flag("plan"),

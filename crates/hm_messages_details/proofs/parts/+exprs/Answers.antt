@@ -3,7 +3,7 @@ use Rattle.hm_syntax.specs.Lists.{alternatives, bodies, constructors, declaratio
 use Rattle.hm_syntax.specs.Trees.{more_patterns, no_patterns}
 use Rattle.hm_syntax.specs.Views.OfExpressions.{declaration_of, expression_of}
 use Rattle.hm_names.proofs.Rows.{past, unrolled}
-use Rattle.hm_messages_details.specs.Parts.{Part, a_list, a_row, an_end, ended, alternative_parts, alternatives_parts, constructors_parts, bodies_of_parts, bodies_parts, declaration_parts, declarations_parts, expression_parts, expressions_parts, guard_parts, head_parts, module_parts, part_of, right_side_parts, type_parts}
+use Rattle.hm_messages_details.specs.Parts.{ModulePart, a_list, a_row, an_end, ended, alternative_parts, alternatives_parts, constructors_parts, bodies_of_parts, bodies_parts, declaration_parts, declarations_parts, expression_parts, expressions_parts, guard_parts, head_parts, module_parts, part_of, right_side_parts, type_parts}
 use Rattle.hm_messages_details.proofs.PartLists.{bodies_are, both_added, both_of, in_scope, row_end, row_more}
 use Rattle.hm_messages_details.proofs.parts.+exprs.Goals as goal
 
@@ -124,7 +124,7 @@ add_decl-returns-in_ok-add_part-in-Clause t c =
 pub add_list-row-init : goal.add_list-row-init
 add_list-row-init t c =
     let parts = declarations_parts (declarations c.args.decls.now) in
-    ap (λ (l : List Part). l ++ parts) c.in_ok-add_part.ensures ∙ append_assoc (map part_of c.args.out.now.items) (a_list (declarations c.args.decls.now) ∷ []) parts
+    ap (λ (l : List ModulePart). l ++ parts) c.in_ok-add_part.ensures ∙ append_assoc (map part_of c.args.out.now.items) (a_list (declarations c.args.decls.now) ∷ []) parts
 
 pub add_alts-row-preserved : goal.add_alts-row-preserved
 add_alts-row-preserved t c =

@@ -12,7 +12,7 @@ use Rattle.hm_messages_types.specs.declared.shown.Alias.{Alias}
 use Rattle.hm_messages_types.proofs.Folding.{all_so}
 use Rattle.hm_messages_type_names.specs.TypeNames.{IsTypeName}
 use Rattle.hm_messages_trials.specs.ShownTypes.{ExportsNames}
-use Rattle.hm_messages_here.specs.declared.typed.Typed.{Typed}
+use Rattle.hm_messages_here.specs.declared.typed.ExportedScheme.{ExportedScheme}
 use Rattle.hm_messages_trials.proofs.Found.{found_so}
 use Rattle.hm_messages_here.proofs.typed.typed_in.Goals as goal
 
@@ -27,7 +27,7 @@ returns-in-Good-clause-names c =
     let imports : o.imports ≡ fs = search rules in
     let own : IsVerdict o.«module» (prelude_interface ∷ o.imports) (Good exports) = search rules in
     let right : IsVerdict o.«module» (prelude_interface ∷ fs) (Good exports) = subst (λ (l : List Interface). IsVerdict o.«module» (prelude_interface ∷ l) (Good exports)) imports own in
-    found_so (λ (t : Typed). All (λ a. IsName name exports (alias_of a)) t.aliases.items) (λ (t : Typed). ExportsNames c.args.changed.now name fs (map alias_of t.aliases.items))
+    found_so (λ (t : ExportedScheme). All (λ a. IsName name exports (alias_of a)) t.aliases.items) (λ (t : ExportedScheme). ExportsNames c.args.changed.now name fs (map alias_of t.aliases.items))
     c.in_ok-typed_by-in-Good.field-0
     (λ t each. record {
       «module» = o.«module»;
