@@ -3,7 +3,7 @@ use Rattle.std.specs.Prelude.{◌≡◌, ℕ, ◌<◌, List, Option, None, Some,
 use Rattle.std.specs.HashMap.{get}
 use Rattle.hm_uses.specs.Uses.{Sense, local_variable, type_variable, an_entity, a_module, a_prefix, unbound, ambiguous}
 use Rattle.hm_uses_references.specs.SetNames.{IsSame, SetName}
-use Rattle.hm_uses_renames.specs.contracts.firsts.SpotPartialEq as SpotPartialEq
+use Rattle.hm_uses_renames.specs.contracts.firsts.BindingPlacePartialEq as BindingPlacePartialEq
 use Rattle.hm_uses_renames.specs.declared.firsts.Firsts.{Firsts}
 use Rattle.hm_uses_renames.specs.declared.firsts.BindingPlace.{BindingPlace}
 
@@ -22,7 +22,7 @@ spot_of n = spot_in n.number n.used.sense
 
 -- what the table has for a spot
 abbrev pub number_at : Firsts → BindingPlace → Option ℕ
-number_at firsts s = get (SpotPartialEq.TheImpl.eq-value).it firsts.table s
+number_at firsts s = get (BindingPlacePartialEq.TheImpl.eq-value).it firsts.table s
 
 -- what a table has for the spot of a name is the number of a name that means the same as its counterpart
 abbrev pub IsPaired : (BindingPlace → Option ℕ) → List SetName → SetName → SetName → Type 0
