@@ -1,0 +1,4 @@
+pub mod Between
+pub mod Explained
+pub mod Verdicts
+pub mod WorkedFixes
