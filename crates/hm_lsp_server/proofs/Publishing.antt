@@ -1,5 +1,5 @@
 -- What is published.
-use Rattle.std.proofs.Common.{◌≡◌, ℕ, List, [], ◌∷◌, ◌++◌, Option, None, Some, IfSome, Vec, Global, append_assoc, length, ap, refl, sym, subst, ◌∙◌}
+use Rattle.std.proofs.Common.{◌≡◌, ℕ, List, [], ◌∷◌, ◌++◌, Option, None, Some, IfSome, Result, Ok, Err, OnErr, Vec, Global, append_assoc, length, ap, refl, sym, subst, ◌∙◌}
 use Rattle.std.specs.Prelude.{option_map, slice_index_or}
 use Rattle.serde_json.specs.Data.{Data}
 use Rattle.hm_lsp_session.specs.Documents.{listed}
@@ -13,7 +13,7 @@ use Rattle.hm_service_places.specs.declared.checked.Checked.{Checked}
 use Rattle.hm_service_sources.specs.declared.held.HeldSource.{HeldSource}
 use Rattle.hm_service_stand_ins.specs.Findings.{Findings}
 use Rattle.hm_service_stand_ins.specs.GoodTexts.{AreGoodAfter}
-use Rattle.hm_service_stand_ins.specs.StandIns.{IsSecondSet}
+use Rattle.hm_service_stand_ins.specs.StandIns.{IsSecondSet, MissesSome}
 use Rattle.hm_lsp_positions.specs.declared.units.Encoding.{Encoding}
 use Rattle.hm_lsp_sources.specs.declared.source.Source.{Source}
 use Rattle.hm_lsp_server.specs.Published.{AreOfCheck, AreTold, IsSameButShown, IsShown, IsTold, no_check, no_second, told}
@@ -55,13 +55,17 @@ check_since before between after c second new same h = record {
 -- by another state with the same diagnostics shown
 pub shown_since : (before between after : Server) (new : List Data) → shown_of between ≡ shown_of before → IsShown between after new → IsShown before after new
 shown_since before between after new same (no_check none is as_before) = no_check none is (as_before ∙ same)
-shown_since before between after new same (no_second {c} {rest} is h) = no_second is (check_since before between after c None rest same h)
+shown_since before between after new same (no_second {c} {rest} misses is h) = no_second misses is (check_since before between after c None rest same h)
 shown_since before between after new same (told {c} {second} made h) = told made (check_since before between after c second new same h)
 
 -- the diagnostics by both checks, after which the good texts are those of before
 pub shown_by_both : (before after : Server) (c : Checked) (second : Option SecondCheck) (new : List Data) → IsSameButShown before after → IsSecondCheck (held_of before) c (good_of before) second → AreOfCheck before after c second new → IsShown before after new
 shown_by_both before after c second new kept made h =
     told (subst (λ (x : List HeldSource). IsSecondCheck x c (good_of after) second) (sym kept.held) (subst (λ (x : List (Option (List ℕ))). IsSecondCheck (held_of before) c x second) (sym kept.good) made)) h
+
+-- what the first check misses, by another state with the same sources
+pub misses_since : (f : Findings) (held other : List HeldSource) → other ≡ held → MissesSome f held → MissesSome f other
+misses_since f held other same h = subst (λ (x : List HeldSource). MissesSome f x) (sym same) h
 
 -- the message that a check failed, and then other messages
 pub after_notice : (start between after later : List Data) (notice : Data) → between ≡ start ++ notice ∷ [] → after ≡ between ++ later → after ≡ start ++ (notice ∷ later)
@@ -97,6 +101,17 @@ some_made f c held good made set sources again f_is some h sources_is check = (
   subst (λ (x : Findings). IsSecondSet x held good (Some set.items)) f_is (subst (λ (x : Option (Vec HeldSource Global)). IsSecondSet f held good (option_map (λ s. s.items) x)) some h),
   subst (λ (x : List HeldSource). IsHeldCheck workers x again) sources_is check,
 )
+
+-- what the first check misses if a second one is made
+pub misses_made : (f : Findings) (c : Checked) (held : List HeldSource) (good : List (Option (List ℕ))) (made : Option (Vec HeldSource Global)) (set : Vec HeldSource Global) → f ≡ findings_in c → made ≡ Some set
+    → IsSecondSet f held good (option_map (λ s. s.items) made) → MissesSome (findings_in c) held
+misses_made f c held good made set f_is some h =
+    subst (λ (x : Findings). MissesSome x held) f_is (subst (λ (x : Option (Vec HeldSource Global)). IsSecondSet f held good (option_map (λ s. s.items) x)) some h).0
+
+-- what holds anyhow holds after an error
+pub answered : {T E P : Type 0} (r : Result T E) → P → OnErr r P
+answered (Ok x) p = tt
+answered (Err e) p = p
 
 pub same_second : (held sources : List HeldSource) (c : Checked) (good was : List (Option (List ℕ))) (second : Option SecondCheck) → sources ≡ held → was ≡ good → IsSecondCheck sources c was second → IsSecondCheck held c good second
 same_second held sources c good was second held_is good_is h = subst (λ (x : List HeldSource). IsSecondCheck x c good second) held_is (subst (λ (x : List (Option (List ℕ))). IsSecondCheck sources c x second) good_is h)

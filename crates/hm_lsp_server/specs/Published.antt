@@ -1,5 +1,5 @@
 -- The diagnostics that are sent to a client (Language Server Protocol 3.17, "PublishDiagnostics Notification", "ShowMessage Notification").
-use Rattle.std.specs.Prelude.{◌≡◌, ◌⊎◌, ℕ, zero, suc, false, List, [], ◌∷◌, ◌++◌, Option, None, Some, codes, length, map, slice_index_or}
+use Rattle.std.specs.Prelude.{◌≡◌, ◌⊎◌, ℕ, zero, suc, false, true, List, [], ◌∷◌, ◌++◌, Option, None, Some, codes, length, map, slice_index_or}
 use Rattle.serde_json.specs.Data.{Data, array, member, no_members, number, object, string, unsigned}
 use Rattle.serde_json.specs.View.{items_of}
 use Rattle.hm_lsp_positions.specs.declared.units.Encoding.{Encoding}
@@ -13,7 +13,8 @@ use Rattle.hm_service.specs.Checks.{IsHeldCheck}
 use Rattle.hm_service_messages.specs.declared.diagnostic.Diagnostic.{Diagnostic}
 use Rattle.hm_service_places.specs.declared.checked.Checked.{Checked}
 use Rattle.hm_service_sources.specs.declared.held.HeldSource.{HeldSource}
-use Rattle.hm_lsp_server.specs.Second.{AreGoodSince, AreShownAt, IsSecondCheck, workers}
+use Rattle.hm_service_stand_ins.specs.StandIns.{MissesSome}
+use Rattle.hm_lsp_server.specs.Second.{AreGoodSince, AreShownAt, IsSecondCheck, findings_in, workers}
 use Rattle.hm_lsp_server.specs.Servers.{checked_of, good_of, held_of, is_changed, session_of, shown_of, sources_of}
 use Rattle.hm_lsp_server.specs.declared.second.SecondCheck.{SecondCheck}
 use Rattle.hm_lsp_server.specs.declared.server.Server.{Server}
@@ -76,10 +77,10 @@ pub record AreOfCheck (before after : Server) (c : Checked) (second : Option Sec
   pub check : IsHeldCheck workers (held_of after) c
   pub told : AreTold (λ n. IsTold (encoding_of (session_of after)) (sources_of after) (held_of after) c second (slice_index_or (shown_of before) n None) n) (length (sources_of after)) (shown_of after) new
 
--- what is sent after a change: the diagnostics of all sources by both checks, or that a check failed. If it is the second, those of the first follow
+-- what is sent after a change: the diagnostics of all sources by both checks, or that a check failed. If it is the second, which only a first one needs that misses some, those of the first follow
 pub data IsShown (before after : Server) (new : List Data) : Type 0 where
   no_check : checked_of after ≡ None → new ≡ no_check_notice ∷ [] → shown_of after ≡ shown_of before → IsShown before after new
-  no_second : {c : Checked} {rest : List Data} → new ≡ no_check_notice ∷ rest → AreOfCheck before after c None rest → IsShown before after new
+  no_second : {c : Checked} {rest : List Data} → MissesSome (findings_in c) (held_of after) → new ≡ no_check_notice ∷ rest → AreOfCheck before after c None rest → IsShown before after new
   told : {c : Checked} {second : Option SecondCheck} → IsSecondCheck (held_of after) c (good_of after) second → AreOfCheck before after c second new → IsShown before after new
 
 -- nothing is another but under which URIs the client shows diagnostics
@@ -94,4 +95,4 @@ pub record IsSameButShown (before after : Server) : Type 0 where
 -- what is sent: nothing while the client isn't ready or if the texts are those of the last time, and else the diagnostics of all sources, or that the check failed
 pub data IsPublished (before after : Server) (new : List Data) : Type 0 where
   nothing : (is_changed before ≡ false) ⊎ (¬ (stage_of (session_of before) ≡ Ready)) → new ≡ [] → shown_of after ≡ shown_of before → good_of after ≡ good_of before → is_changed after ≡ is_changed before → IsPublished before after new
-  changed : is_changed after ≡ false → AreGoodSince (held_of after) (checked_of after) (good_of before) (good_of after) → IsShown before after new → IsPublished before after new
+  changed : is_changed before ≡ true → stage_of (session_of before) ≡ Ready → is_changed after ≡ false → AreGoodSince (held_of after) (checked_of after) (good_of before) (good_of after) → IsShown before after new → IsPublished before after new

@@ -1,7 +1,8 @@
 //! The second check: that of the last good texts of sources in which the first check has found an error.
-ghost use Rattle.std.specs.Prelude.{◌≡◌, IfOk, map, option_map};
+ghost use Rattle.std.specs.Prelude.{◌≡◌, IfOk, OnErr, map, option_map};
 ghost use Rattle.hm_service_places.specs.Diagnostics.{in_run};
 ghost use Rattle.hm_service_stand_ins.specs.Findings.{findings_of};
+ghost use Rattle.hm_service_stand_ins.specs.StandIns.{MissesSome};
 ghost use Rattle.hm_lsp_server.specs.Second.{IsSecondCheck, findings_in};
 
 use hm_service::{Checked, Diagnostic, HeldSource, ServiceFault, Told, check};
@@ -50,7 +51,8 @@ pub(crate) fn check_again<T: Threads + Wait + Sync>(
     checked: &Checked,
     good: &[Option<Vec<u8>>],
 ) -> Result<Option<SecondCheck>, ServiceFault>
-    ensures { IfOk result (IsSecondCheck held.now checked.now (map (option_map (λ t. t.items)) good.now)) }
+    ensures err { OnErr result (MissesSome (findings_in checked.now) held.now) }
+    ensures second { IfOk result (IsSecondCheck held.now checked.now (map (option_map (λ t. t.items)) good.now)) }
 {
     let said = said_by(checked);
     let made = second_set(alloc, &said, held, good)?;

@@ -1,6 +1,6 @@
 //! The server: the session of a client, and the sources that are held for it.
 
-ghost use Rattle.std.specs.Prelude.{◌≡◌, ◌++◌, [], IfOk, List, None, OnOk, Some, codes, map, option_map, true};
+ghost use Rattle.std.specs.Prelude.{◌≡◌, ◌++◌, [], IfOk, List, None, OnErr, OnOk, Some, codes, map, option_map, true};
 ghost use Rattle.percent_encoding.specs.Percent.{percent_decode};
 ghost use Rattle.serde_json.specs.Data.{Data};
 ghost use Rattle.serde_json.specs.Find.{get};
@@ -12,8 +12,9 @@ ghost use Rattle.hm_lsp_sources.specs.Files.{IsFileRead};
 ghost use Rattle.hm_lsp_sources.specs.Following.{AreFollowing, AreKept};
 ghost use Rattle.hm_lsp_sources.specs.Held.{held_in, named_in};
 ghost use Rattle.hm_service_places.specs.declared.checked.Checked.{Checked};
+ghost use Rattle.hm_service_stand_ins.specs.StandIns.{MissesSome};
 ghost use Rattle.hm_lsp_server.specs.Published.{AreOfCheck, IsPublished, IsSameButShown, IsShown, no_check_notice};
-ghost use Rattle.hm_lsp_server.specs.Second.{AreGoodSince, IsSecondCheck};
+ghost use Rattle.hm_lsp_server.specs.Second.{AreGoodSince, IsSecondCheck, findings_in};
 ghost use Rattle.hm_lsp_server.specs.Replied.{IsReplyOf};
 ghost use Rattle.hm_lsp_server.specs.Served.{IsServed, IsServedBy, subject_in};
 ghost use Rattle.hm_lsp_server.specs.Taken.{IsTakenFrom, replies_in};
@@ -331,7 +332,8 @@ impl Server {
         rt: &T,
         checked: &Checked,
     ) -> Result<Option<SecondCheck>, ServiceFault>
-        ensures { IfOk result (IsSecondCheck (held_of self.now) checked.now (good_of self.now)) }
+        ensures err { OnErr result (MissesSome (findings_in checked.now) (held_of self.now)) }
+        ensures second { IfOk result (IsSecondCheck (held_of self.now) checked.now (good_of self.now)) }
     {
         let held = self.sources.held();
         let good = self.good.as_slice();

@@ -1,3 +1,4 @@
 pub mod Each
 pub mod Growing
+pub mod WorkedSets
 pub mod WorkedStandIns

@@ -4,8 +4,8 @@ use Rattle.hm_service_messages.specs.declared.diagnostic.Diagnostic.{Diagnostic}
 use Rattle.hm_service_sources.specs.declared.held.HeldSource.{HeldSource}
 use Rattle.hm_service_stand_ins.specs.Findings.{Findings, HasError, IsGoodIn}
 use Rattle.hm_service_stand_ins.specs.GoodTexts.{IsGoodAfter}
-use Rattle.hm_service_stand_ins.specs.Missed.{AreMissedAt, HasTextOfNow, IsMissed}
-use Rattle.hm_service_stand_ins.specs.StandIns.{IsSkip, StandsIn}
+use Rattle.hm_service_stand_ins.specs.Missed.{AreMissedAt, HasTextOfNow, IsMissed, IsOfModule}
+use Rattle.hm_service_stand_ins.specs.StandIns.{IsSecondSet, IsSkip, StandsIn}
 
 -- a check that says nothing of the sources with these numbers
 abbrev pub silent : List ℕ → Findings
@@ -21,6 +21,20 @@ pub record GoodRow : Type 0 where
 pub record StandInRow : Type 0 where
   pub unread : (f : Findings) (h : HeldSource) (text : List ℕ) → h.is_read ≡ false → StandsIn f 0 h (Some text) text
   pub not_older : (f : Findings) (h : HeldSource) (text : List ℕ) → ¬ (HasError f h 0) → text ≢ h.standing.items → ¬ (StandsIn f 0 h (Some text) text)
+
+-- a check that skips a module of source number 0
+abbrev pub skipping : Diagnostic → Findings
+skipping note = record { part = 0 ∷ []; refused = []; told = note ∷ [] }
+
+-- a check of a source that misses nothing has no second set.
+pub record SecondSetRow : Type 0 where
+  pub none : (h : HeldSource) (good : List (Option (List ℕ))) → IsSecondSet (silent (0 ∷ [])) (h ∷ []) good None
+  pub not_needed : (h : HeldSource) (good : List (Option (List ℕ))) (set : List HeldSource) → ¬ (IsSecondSet (silent (0 ∷ [])) (h ∷ []) good (Some set))
+
+-- a diagnostic of a module that the first check has skipped is shown, and none of another module of a checked source
+pub record SkippedRow : Type 0 where
+  pub skipped : (d note : Diagnostic) → IsSkip note → note.source ≡ 0 → IsOfModule d note → d.source ≡ 0 → ¬ (IsSkip d) → IsMissed (skipping note) 0 d
+  pub not_other : (d note : Diagnostic) → ¬ (IsOfModule d note) → ¬ (IsMissed (skipping note) 0 d)
 
 -- a diagnostic of a source that the first check has left out is shown. None of a checked source is that has no skipped module, and none of an older text
 pub record MissedRow : Type 0 where

@@ -1,5 +1,5 @@
 //! The held set of a second check.
-ghost use Rattle.std.specs.Prelude.{◌≡◌, ◌<◌, IfOk, IsTrue, ℕ, false, length, map, option_map, true};
+ghost use Rattle.std.specs.Prelude.{◌≡◌, ◌<◌, IfOk, IsTrue, OnErr, ℕ, false, length, map, option_map, true};
 ghost use Rattle.std.specs.List.{Any};
 ghost use Rattle.hm_service_stand_ins.specs.Findings.{findings_of};
 ghost use Rattle.hm_service_stand_ins.specs.StandIns.{AreStandIns, IsSameAt, IsSecondSet, IsSkip, IsStandIn, MissesSome, StandsIn};
@@ -134,7 +134,8 @@ pub fn second_set(
     held: &[HeldSource],
     good: &[Option<Vec<u8>>],
 ) -> Result<Option<Vec<HeldSource>>, AllocError>
-    ensures { IfOk result (λ set. IsSecondSet (findings_of said.now) held.now (map (option_map (λ t. t.items)) good.now) (option_map (λ s. s.items) set)) }
+    ensures err { OnErr result (MissesSome (findings_of said.now) held.now) }
+    ensures set { IfOk result (λ set. IsSecondSet (findings_of said.now) held.now (map (option_map (λ t. t.items)) good.now) (option_map (λ s. s.items) set)) }
 {
     if !misses_some(said, held) {
         return Ok(None);
