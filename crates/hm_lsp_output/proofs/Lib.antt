@@ -1,0 +1,2 @@
+mod WorkedFrames
+mod Written
