@@ -1,7 +1,7 @@
 #!/usr/bin/env python3
 """Runs the language server hmc_lsp for a folder, as ready.py runs hmc.
 
-`server.py FOLDER` runs the proved program if `rt ci` built it from the sources as they are now. Otherwise it runs the unproved one, which it
+`server.py FOLDER` and `server.py --start FOLDER` run the proved program with these words if `rt ci` built it from the sources as they are now. Otherwise it runs the unproved one, which it
 builds first if need be.
 """
 # Why: docs/DECISIONS.md, "Unproved first".
@@ -20,6 +20,6 @@ ready.NOT_PROVED = "this program is not proved yet: rt ci proves and builds it"
 
 if __name__ == "__main__":
     try:
-        sys.exit(ready.main(sys.argv[1:2]))
+        sys.exit(ready.main(sys.argv[1:3]))
     except KeyboardInterrupt:
         sys.exit(127)

@@ -22,8 +22,8 @@ TYPED = "p = case f 1 of { 0 -> True ; _ -> False } ; "
 class Client(lsp.Client):
     """A client of a server that is started for a folder with A.hs and B.hs, with what each row found."""
 
-    def __init__(self, program, folder):
-        super().__init__(program, folder)
+    def __init__(self, program, folder, words=None):
+        super().__init__(program, folder, words)
         self.program, self.rows, self.wrong = program, 0, 0
 
     def reply(self):
@@ -392,6 +392,59 @@ def offer(it):
     it.rows, it.wrong = it.rows + other.rows, it.wrong + other.wrong
 
 
+def open_folders(it):
+    """Starts servers without a folder, or with one to start in, for clients that open folders or none."""
+    with tempfile.TemporaryDirectory() as top:
+        one, two, three = (os.path.join(top, name) for name in ("one", "a two", "three"))
+        texts = {f"{one}/A.hs": A, f"{two}/B.hs": B, f"{two}/deep/C.hs": "module C where { c = missing }", f"{three}/A.hs": A, f"{three}/E.hs": "module E where { e = missing }", f"{three}/hmc.files": "A.hs\n\n./in/F.hs\nnone.hs\n", f"{three}/in/F.hs": "module F where { f = missing }"}
+        for path, text in texts.items():
+            os.makedirs(os.path.dirname(path), exist_ok=True)
+            with open(path, "w", encoding="utf-8") as file:
+                file.write(text)
+        uri = {folder: f"file://{folder}".replace(" ", "%20") for folder in (one, two, three)}
+        listed = [{"uri": uri[folder], "name": "a folder"} for folder in (one, two)] + [{"uri": uri[two] + "/deep", "name": "in it"}]
+        both, deep, some = {"B.hs": ["type"], "C.hs": ["unbound"]}, {"B.hs": ["missing"], "C.hs": ["unbound"]}, {"F.hs": ["unbound"]}
+        rows = [
+            ("folders of a list", [], {"workspaceFolders": listed, "rootUri": uri[three]}, both),
+            ("the root of a client without a list", [], {"workspaceFolders": None, "rootUri": uri[two] + "/"}, deep),
+            ("no folder", [], {"workspaceFolders": None, "rootUri": None}, {}),
+            ("an empty list", ["--start", two], {"workspaceFolders": [], "rootUri": uri[three]}, deep),
+            ("the folder to start in", ["--start", two], {}, deep),
+            ("a folder in place of that to start in", ["--start", two], {"rootUri": uri[three]}, some),
+            ("the folder of the command line", [two], {"rootUri": uri[three]}, deep),
+            ("a folder that isn't on the disk", ["--start", two], {"rootUri": "untitled:a"}, {}),
+            ("the sources that a client lists", [], {"rootUri": uri[three], "initializationOptions": {"sources": ["A.hs", "E.hs", 1]}}, {"E.hs": ["unbound"]}),
+            ("sources of the folder to start in", ["--start", two], {"initializationOptions": {"sources": ["deep/C.hs"]}}, {"C.hs": ["unbound"]}),
+            ("the files of a list", [three], {}, some),
+        ]
+        for what, words, params, wanted in rows:
+            other = Client(it.program, top, words)
+            other.ask("initialize", capabilities={}, **params)
+            other.notify("initialized")
+            other.settle()
+            found = {name.rpartition("/")[2]: codes(messages) for name, messages in other.shown.items()}
+            other.row(what, {name: them for name, them in found.items() if them}, wanted)
+            if words == [three]:
+                with open(f"{three}/in/F.hs", "w", encoding="utf-8") as file:
+                    file.write("module F where { f = True }")
+                other.notify("workspace/didChangeWatchedFiles", changes=[{"uri": f"{uri[three]}/{name}", "type": 2} for name in ("in/F.hs", "E.hs")])
+                other.settle()
+                other.row("a changed file of a list, and one that isn't listed", [other.shown.get(f"{uri[three]}/{name}") for name in ("in/F.hs", "E.hs")], [[], None])
+            finish(other)
+            it.rows, it.wrong = it.rows + other.rows, it.wrong + other.wrong
+
+
+def close_output(it):
+    """Starts a server whose output nobody reads, and one whose input ends."""
+    other = Client(it.program, it.folder)
+    other.server.stdout.close()
+    other.send({"id": 1, "method": "initialize", "params": {"capabilities": {}}})
+    it.row("an output that can't be written", other.server.wait(timeout=60), 4)
+    other = Client(it.program, it.folder)
+    other.server.stdin.close()
+    it.row("an input that ends", other.server.wait(timeout=60), 1)
+
+
 def refer_often(it):
     """Asks for the references of a name that 60,000 definitions use, and what the source declares. Finding each place from the start would take longer."""
     doc, count = {"uri": it.uri("F.hs")}, 60000
@@ -440,7 +493,7 @@ def main(program=lsp.PROVED):
             with open(os.path.join(folder, name), "w", encoding="utf-8") as file:
                 file.write(text)
         it = Client(os.path.abspath(program), folder)
-        for part in (start_and_check, look, mend, type_letters, keep_faults, escape_letters, move_diagnostics, watch_files, cancel, offer, refer_often, nest_deeply, bad_input, finish):
+        for part in (start_and_check, look, mend, type_letters, keep_faults, escape_letters, move_diagnostics, watch_files, cancel, offer, open_folders, close_output, refer_often, nest_deeply, bad_input, finish):
             part(it)
     print(f"{it.rows - it.wrong} of {it.rows} rows as wanted")
     return 1 if it.wrong else 0

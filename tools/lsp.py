@@ -14,12 +14,12 @@ class Ended(Exception):
 
 
 class Client:
-    """A client of a server that is started for a folder."""
+    """A client of a server that is started for a folder, by the name of the folder or by other words."""
 
-    def __init__(self, program, folder):
+    def __init__(self, program, folder, words=None):
         # The last diagnostics of each document.
         self.folder, self.last, self.shown = folder, 0, {}
-        self.server = subprocess.Popen([program, folder], stdin=subprocess.PIPE, stdout=subprocess.PIPE)
+        self.server = subprocess.Popen([program, *([folder] if words is None else words)], stdin=subprocess.PIPE, stdout=subprocess.PIPE)
 
     def uri(self, name):
         return f"file://{self.folder}/{name}"

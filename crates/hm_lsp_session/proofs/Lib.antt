@@ -7,3 +7,4 @@ mod Taking
 mod WorkedCancels
 mod WorkedChanges
 mod WorkedDecisions
+mod WorkedFolders

@@ -2,6 +2,7 @@ pub mod Cancelled
 pub mod Documents
 pub mod Effects
 pub mod Files
+pub mod Folders
 pub mod Params
 pub mod Replies
 pub mod Stages

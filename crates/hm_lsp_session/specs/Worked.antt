@@ -1,8 +1,9 @@
--- Worked examples: what a server does with a message, the changes and the files that a message has, and the request that one cancels.
+-- Worked examples: what a server does with a message, the changes, files and folders that a message has, and the request that one cancels.
 use Rattle.std.specs.Prelude.{◌≡◌, [], ◌∷◌, None, Some, codes}
 use Rattle.serde_json.specs.Data.{Data, array, item, member, no_items, no_members, number, object, string, unsigned}
 use Rattle.hm_lsp_positions.specs.declared.changes.Change.{Change}
 use Rattle.hm_lsp_session.specs.Cancelled.{IsOfId, IsSameId}
+use Rattle.hm_lsp_session.specs.Folders.{IsOpening, folders_in, sources_in}
 use Rattle.hm_lsp_session.specs.Params.{AreChangesIn, changed_files}
 use Rattle.hm_lsp_session.specs.Stages.{method_named, notification_decision, request_decision}
 use Rattle.hm_lsp_session.specs.declared.stages.Decision.TheVariants.{End, Go, Ignore, Refuse}
@@ -50,3 +51,29 @@ pub record CancelRow : Type 0 where
   pub own : IsOfId (number (unsigned 7)) cancel
   pub not_other : ¬ (IsOfId (number (unsigned 8)) cancel)
   pub not_text : ¬ (IsSameId (number (unsigned 7)) (string (codes "7")))
+
+-- a folder in the list of a client, and another one as its root
+abbrev pub two_folders : Data
+two_folders = object (member (codes "rootUri") (string (codes "a")) (member (codes "workspaceFolders") (array (item (object (member (codes "uri") (string (codes "b")) no_members)) no_items)) no_members))
+
+-- the parameters of an older client, which has a root alone
+abbrev pub root_alone : Data
+root_alone = object (member (codes "rootUri") (string (codes "a")) no_members)
+
+-- the options of a client that lists a source, beside what is no name
+abbrev pub one_source : Data
+one_source = object (member (codes "initializationOptions") (object (member (codes "sources") (array (item (string (codes "c")) (item (number (unsigned 1)) no_items))) no_members)) no_members)
+
+-- the first message of a client, without parameters
+abbrev pub first_message : Data
+first_message = object (member (codes "id") (number (unsigned 1)) (member (codes "method") (string (codes "initialize")) no_members))
+
+-- the list of folders comes before the root. A client without options lists no sources. A message of another request opens no folder
+pub record FoldersRow : Type 0 where
+  pub listed : folders_in (Some two_folders) ≡ codes "b" ∷ []
+  pub root : folders_in (Some root_alone) ≡ codes "a" ∷ []
+  pub sources : sources_in (Some one_source) ≡ Some (codes "c" ∷ [])
+  pub no_sources : sources_in (Some root_alone) ≡ None
+  pub opens : IsOpening first_message (number (unsigned 1))
+  pub not_root : ¬ (folders_in (Some two_folders) ≡ codes "a" ∷ [])
+  pub not_cancel : ¬ (IsOpening cancel (number (unsigned 7)))

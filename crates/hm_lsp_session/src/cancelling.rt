@@ -66,7 +66,7 @@ fn is_of_id(id: &Value, message: &Value) -> bool
 }
 
 /// Returns the message in the body of a frame, or `None` if it isn't UTF-8 or isn't JSON.
-fn message_in(alloc: Global, body: &[u8]) -> Result<Option<Value>, AllocError>
+pub(crate) fn message_in(alloc: Global, body: &[u8]) -> Result<Option<Value>, AllocError>
     ensures some { IfOk result (λ found. IfSome found (λ message. read body.now ≡ Some (view message))) }
     ensures none { IfOk result (λ found. IfNone found ((message : Data) → IsUtf8 body.now → ¬ (read body.now ≡ Some message))) }
 {

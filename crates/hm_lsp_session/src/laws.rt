@@ -1,5 +1,5 @@
 //! Worked examples. Each is a function with an empty body, and its contract states the example.
-ghost use Rattle.hm_lsp_session.specs.Worked.{CancelRow, ChangesRow, DecisionsRow, FilesRow};
+ghost use Rattle.hm_lsp_session.specs.Worked.{CancelRow, ChangesRow, DecisionsRow, FilesRow, FoldersRow};
 
 /// What a server does with a message.
 #[tactic(auto, using(crate::proofs::WorkedDecisions::worked_decisions))]
@@ -12,6 +12,12 @@ pub fn worked_decisions()
 pub fn worked_changes()
     ensures changes { ChangesRow }
     ensures files { FilesRow }
+{}
+
+/// The folders that a client opens.
+#[tactic(auto, using(crate::proofs::WorkedFolders::worked_folders))]
+pub fn worked_folders()
+    ensures { FoldersRow }
 {}
 
 /// The request that a message cancels.

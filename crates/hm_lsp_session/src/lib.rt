@@ -5,6 +5,7 @@
 
 mod cancelling;
 mod documents;
+mod folders;
 pub mod laws;
 mod params;
 mod replies;
@@ -13,6 +14,7 @@ mod stages;
 
 pub use crate::cancelling::Cancelled;
 pub use crate::documents::{Document, Documents};
+pub use crate::folders::{Opened, opened_by};
 pub use crate::params::{position_in, range_in, text_at};
 pub use crate::replies::{notice, refusal, reply};
 pub use crate::session::{Outcome, Session};

@@ -2,11 +2,11 @@
 ghost use Rattle.std.specs.Prelude.{◌≡◌, ◌++◌, IfNone, IfOk, IfSome, List, OnOk, Some, codes, map, string_bytes, ℕ, option_map, option_to_list};
 ghost use Rattle.serde_json.specs.Data.{Items};
 ghost use Rattle.serde_json.specs.Find.{as_array};
-ghost use Rattle.serde_json.specs.View.{view};
+ghost use Rattle.serde_json.specs.View.{items_view, view};
 ghost use Rattle.hm_lsp_positions.specs.declared.changes.Change.{Change};
 ghost use Rattle.hm_lsp_positions.specs.declared.changes.Range.{Range};
 ghost use Rattle.hm_lsp_positions.specs.declared.positions.Position.{Position};
-ghost use Rattle.hm_lsp_session.specs.Params.{AreChangesIn, changed_files, IsChangeIn, IsNumberUnder, IsPositionIn, IsRangeIn, string_at};
+ghost use Rattle.hm_lsp_session.specs.Params.{AreChangesIn, changed_files, IsChangeIn, IsNumberUnder, IsPositionIn, IsRangeIn, string_at, uris_in};
 
 use hm_lsp_positions::{Change, Position, Range};
 use serde_json::Value;
@@ -111,17 +111,29 @@ fn uri_in(alloc: Global, value: &Value) -> Result<Option<String>, AllocError>
     }
 }
 
-/// Appends a URI, if there is one.
-fn add(uris: &mut Vec<String>, uri: Option<String>) -> Result<(), AllocError>
-    ensures { OnOk result (map string_bytes uris.new.items ≡ map string_bytes uris.old.items ++ option_to_list (option_map string_bytes uri)) }
+/// Appends a text, if there is one.
+pub(crate) fn add(texts: &mut Vec<String>, text: Option<String>) -> Result<(), AllocError>
+    ensures { OnOk result (map string_bytes texts.new.items ≡ map string_bytes texts.old.items ++ option_to_list (option_map string_bytes text)) }
 {
-    match uri {
+    match text {
         None => Ok(()),
-        Some(uri) => {
-            uris.push(uri)?;
+        Some(text) => {
+            texts.push(text)?;
             Ok(())
         }
     }
+}
+
+/// Returns the URIs of these, in order. One without a URI is left out.
+pub(crate) fn uris_of(alloc: Global, values: &[Value]) -> Result<Vec<String>, AllocError>
+    ensures { IfOk result (λ uris. map string_bytes uris.items ≡ uris_in (items_view values.now)) }
+{
+    let mut uris = Vec::new(alloc);
+    'listed: for value in values {
+        let uri = uri_in(alloc, value)?;
+        add(&mut uris, uri)?;
+    }
+    Ok(uris)
 }
 
 /// Returns the URIs of the files that a `didChangeWatchedFiles` names, or `None` if its parameters have no list of them.
@@ -134,10 +146,16 @@ pub fn files_in(alloc: Global, params: &Value) -> Result<Option<Vec<String>>, Al
     let Some(changes) = changes.as_array() else {
         return Ok(None);
     };
+    Ok(Some(uris_of(alloc, changes.as_slice())?))
+}
+
+/// Returns the URI of the root that the parameters of `initialize` name, if they name one.
+pub(crate) fn root_in(alloc: Global, params: &Value) -> Result<Vec<String>, AllocError>
+    ensures { IfOk result (λ uris. map string_bytes uris.items ≡ option_to_list (string_at (codes "/rootUri") (view params.now))) }
+{
     let mut uris = Vec::new(alloc);
-    'changes: for change in changes {
-        let uri = uri_in(alloc, change)?;
-        add(&mut uris, uri)?;
+    if let Some(uri) = text_at(params, "/rootUri") {
+        uris.push(String::from_str(alloc, uri)?)?;
     }
-    Ok(Some(uris))
+    Ok(uris)
 }

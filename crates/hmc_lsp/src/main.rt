@@ -4,46 +4,44 @@
 #![tactic(auto)]
 
 mod disk;
+mod folders;
 
 ghost use Rattle.std.specs.Prelude.{OnOk};
 ghost use Rattle.hm_lsp_server.specs.Servers.{IsOrderly};
 
-use crate::disk::{source_path, sources_below};
+use crate::folders::Folders;
 use core::thread::Stack;
-use hm_lsp_frames::{Frame, Frames, framed};
+use hm_lsp_frames::{Frame, Frames};
+use hm_lsp_output::{SendFault, send};
 use hm_lsp_server::{Server, Taken};
-use hm_lsp_session::Cancelled;
+use hm_lsp_session::{Cancelled, opened_by};
 use serde_json::{Value, json};
 use std::alloc::{AllocError, Global};
-use std::io::{Read, Write};
+use std::io::Read;
 use std::process::ExitCode;
 use std::sync::Wait;
 use std::thread::{Promise, Threads};
 use std::{env, fs, slice, thread};
 
-/// Where the program runs.
-#[derive(Clone, Copy)]
-struct Place<'a> {
-    host: &'a HostRuntime,
-    /// The folder whose files are sources, if there is one.
-    folder: &'a Option<String>,
+/// The server, with the folders whose files it holds.
+#[derive(Drop)]
+struct Serving {
+    server: Server,
+    folders: Folders,
 }
 
 // Why: docs/DECISIONS.md, "The server's stack".
 /// The bytes of stack for the server.
 const STACK: usize = 1 << 30;
 
-/// Writes messages as frames. Returns whether all could be written.
-fn send(rt: &HostRuntime, sent: &[Value]) -> Result<bool, AllocError> {
+/// Sends messages to the client. Returns whether all could be written.
+fn is_sent(rt: &HostRuntime, messages: &[Value]) -> Result<bool, AllocError> {
     let mut stdout = rt.stdout();
-    for value in sent {
-        let text = value.to_string(rt.alloc())?;
-        let frame = framed(rt.alloc(), text.as_bytes())?;
-        if stdout.write_all(&frame).is_err() {
-            return Ok(false);
-        }
+    match send(rt.alloc(), &mut stdout, messages) {
+        Ok(()) => Ok(true),
+        Err(SendFault::Write) => Ok(false),
+        Err(SendFault::Memory) => Err(AllocError),
     }
-    Ok(stdout.flush().is_ok())
 }
 
 /// Returns the reply to what is no message.
@@ -76,25 +74,22 @@ fn take_frame<T: Threads + Wait + Sync>(
     Ok(Taken::Reply(reply))
 }
 
-/// Reads the files with these URIs that are sources below the folder.
+/// Reads the files with these URIs that are sources of the folders.
 fn read_files<T: Threads + Wait + Sync>(
     rt: &T,
-    place: &Place<'_>,
-    server: &mut Server,
+    host: &HostRuntime,
+    serving: &mut Serving,
     uris: &[String],
 ) -> Result<(), AllocError>
-    requires { IsOrderly server.old }
-    ensures { OnOk result (IsOrderly server.new) }
+    requires { IsOrderly serving.old.server }
+    ensures { OnOk result (IsOrderly serving.new.server) }
 {
-    let Some(folder) = place.folder else {
-        return Ok(());
-    };
     'files: for uri in uris {
-        let Some(path) = source_path(place.host.alloc(), folder.as_str(), uri.as_str())? else {
+        let Some(path) = serving.folders.source_path(host.alloc(), uri.as_str())? else {
             continue;
         };
-        let text = fs::read(place.host, path.as_str()).ok();
-        server.read_file(rt, uri.as_str(), text)?;
+        let text = fs::read(host, path.as_str()).ok();
+        serving.server.read_file(rt, uri.as_str(), text)?;
     }
     Ok(())
 }
@@ -102,25 +97,51 @@ fn read_files<T: Threads + Wait + Sync>(
 /// Does what follows from a message. Returns the exit status if the server ends.
 fn act<T: Threads + Wait + Sync>(
     rt: &T,
-    place: &Place<'_>,
-    server: &mut Server,
+    host: &HostRuntime,
+    serving: &mut Serving,
     taken: Taken,
 ) -> Result<Option<u8>, AllocError>
-    requires { IsOrderly server.old }
-    ensures { OnOk result (IsOrderly server.new) }
+    requires { IsOrderly serving.old.server }
+    ensures { OnOk result (IsOrderly serving.new.server) }
 {
     match taken {
         Taken::Nothing => Ok(None),
         Taken::Reply(value) | Taken::Request(value) => {
-            let is_sent = send(place.host, slice::from_ref(&value))?;
+            let is_sent = is_sent(host, slice::from_ref(&value))?;
             Ok(if is_sent { None } else { Some(4) })
         }
         Taken::Files(uris) => {
-            read_files(rt, place, server, &uris)?;
+            read_files(rt, host, serving, &uris)?;
             Ok(None)
         }
         Taken::Ended(status) => Ok(Some(status)),
     }
+}
+
+// Why: docs/DECISIONS.md, "Folders of the client".
+/// Begins anew with the files of the client's folders, if a frame is the request that opens them.
+fn open_folders<T: Threads>(
+    rt: &T,
+    host: &HostRuntime,
+    serving: &mut Serving,
+    frame: &Frame,
+) -> Result<(), AllocError>
+    requires { IsOrderly serving.old.server }
+    ensures { OnOk result (IsOrderly serving.new.server) }
+{
+    if !serving.folders.are_open() {
+        return Ok(());
+    }
+    let Frame::Body(body) = frame else {
+        return Ok(());
+    };
+    let Some(opened) = opened_by(host.alloc(), body)? else {
+        return Ok(());
+    };
+    serving.folders.open(host, &opened)?;
+    let files = serving.folders.sources(host)?;
+    serving.server = Server::new(rt, host.alloc(), files)?;
+    Ok(())
 }
 
 /// The frames that are whole, and those of them that cancel requests.
@@ -155,18 +176,19 @@ fn all_waiting(alloc: Global, frames: &mut Frames) -> Result<Waiting, AllocError
 /// Takes all frames that are whole. Returns the exit status if the server ends.
 fn take_all<T: Threads + Wait + Sync>(
     rt: &T,
-    place: &Place<'_>,
-    server: &mut Server,
+    host: &HostRuntime,
+    serving: &mut Serving,
     frames: &mut Frames,
 ) -> Result<Option<u8>, AllocError>
-    requires { IsOrderly server.old }
-    ensures { OnOk result (IsOrderly server.new) }
+    requires { IsOrderly serving.old.server }
+    ensures { OnOk result (IsOrderly serving.new.server) }
 {
-    let alloc = place.host.alloc();
+    let alloc = host.alloc();
     let Waiting { frames, cancelled } = all_waiting(alloc, frames)?;
     'frames: for frame in frames {
-        let taken = take_frame(rt, alloc, server, &cancelled, frame)?;
-        let status = act(rt, place, server, taken)?;
+        open_folders(rt, host, serving, &frame)?;
+        let taken = take_frame(rt, alloc, &mut serving.server, &cancelled, frame)?;
+        let status = act(rt, host, serving, taken)?;
         if status.is_some() {
             return Ok(status);
         }
@@ -177,59 +199,53 @@ fn take_all<T: Threads + Wait + Sync>(
 /// Takes what was read, and sends the diagnostics if no byte of a message is left. Returns the exit status if the server ends.
 fn take_bytes<T: Threads + Wait + Sync>(
     rt: &T,
-    place: &Place<'_>,
-    server: &mut Server,
+    host: &HostRuntime,
+    serving: &mut Serving,
     frames: &mut Frames,
     bytes: &[u8],
 ) -> Result<Option<u8>, AllocError>
-    requires { IsOrderly server.old }
-    ensures { OnOk result (IsOrderly server.new) }
+    requires { IsOrderly serving.old.server }
+    ensures { OnOk result (IsOrderly serving.new.server) }
 {
     frames.add(bytes)?;
-    if let Some(status) = take_all(rt, place, server, frames)? {
+    if let Some(status) = take_all(rt, host, serving, frames)? {
         return Ok(Some(status));
     }
     if !frames.is_empty() {
         return Ok(None);
     }
-    let mut sent = Vec::new(place.host.alloc());
-    server.publish(rt, &mut sent)?;
-    Ok(if send(place.host, &sent)? {
-        None
-    } else {
-        Some(4)
-    })
+    let mut sent = Vec::new(host.alloc());
+    serving.server.publish(rt, &mut sent)?;
+    Ok(if is_sent(host, &sent)? { None } else { Some(4) })
 }
 
-/// Returns the folder that the command line names, if it names one.
-fn folder(host: &HostRuntime) -> Result<Option<String>, AllocError> {
+/// Returns the folders of the command line. `FOLDER` is the only one. `--start FOLDER` is the one for a client that opens none, and so is no word.
+fn named_folders(host: &HostRuntime) -> Result<Folders, AllocError> {
     let Ok(words) = env::args(host) else {
-        return Ok(None);
+        return Folders::new(host, None, true);
     };
     let Ok(mut words) = words.collect(host.alloc()) else {
         return Err(AllocError);
     };
     let words: &mut Vec<String> = &mut words;
-    if words.len() < 2 {
-        return Ok(None);
-    }
-    Ok(words.pop())
+    let are_open = words.len() != 2;
+    let named = if words.len() < 2 { None } else { words.pop() };
+    Folders::new(host, named, are_open)
 }
 
 // Why: docs/DECISIONS.md, "One loop".
 /// Serves one client until it ends the server or the input ends. Returns the exit status.
 fn serve<T: Threads + Wait + Sync>(rt: &T, host: &HostRuntime) -> Result<u8, AllocError> {
     let alloc = host.alloc();
-    let named = folder(host)?;
-    let files = match &named {
-        Some(folder) => sources_below(host, alloc, folder.as_str())?,
-        None => Vec::new(alloc),
+    let folders = named_folders(host)?;
+    // Files that the client's folders may replace aren't read before it has named these.
+    let files = if folders.are_open() {
+        Vec::new(alloc)
+    } else {
+        folders.sources(host)?
     };
-    let place = Place {
-        host,
-        folder: &named,
-    };
-    let mut server = Server::new(rt, alloc, files)?;
+    let server = Server::new(rt, alloc, files)?;
+    let mut serving = Serving { server, folders };
     let mut frames = Frames::new(alloc);
     let mut stdin = host.stdin();
     let mut buffer = [0u8; 65536];
@@ -240,7 +256,7 @@ fn serve<T: Threads + Wait + Sync>(rt: &T, host: &HostRuntime) -> Result<u8, All
         if count == 0 {
             return Ok(1);
         }
-        if let Some(status) = take_bytes(rt, &place, &mut server, &mut frames, &buffer[..count])? {
+        if let Some(status) = take_bytes(rt, host, &mut serving, &mut frames, &buffer[..count])? {
             return Ok(status);
         }
     }

@@ -2,6 +2,8 @@
 #![tactic(auto)]
 
 #[cfg(test)]
+mod folders;
+#[cfg(test)]
 mod messages;
 #[cfg(test)]
 mod sending;
