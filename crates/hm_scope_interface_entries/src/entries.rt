@@ -1,12 +1,12 @@
 //! The entries of a core's interface.
 
-ghost use Rattle.std.specs.Prelude.{◌≡◌, ◌↔◌, ◌++◌, ◌∷◌, [], List, map, Some, IfOk, OnOk, option_map};
+ghost use Rattle.std.specs.Prelude.{◌≡◌, ◌↔◌, ◌++◌, ◌∷◌, [], List, map, All, Contains, IsTrue, Some, IfOk, OnOk, option_map};
 ghost use Rattle.hm_types.specs.declared.Entity.{Entity};
 ghost use Rattle.hm_types.specs.declared.entries.SynonymEntry.{SynonymEntry};
 ghost use Rattle.hm_types.specs.declared.entries.ConstructorEntry.{ConstructorEntry};
 ghost use Rattle.hm_types.specs.Interfaces.{AreOrdered};
 ghost use Rattle.hm_types.specs.Schemes.{TypeScheme};
-ghost use Rattle.hm_names.specs.Cores.{IsSomeCore, HasScheme};
+ghost use Rattle.hm_names.specs.Cores.{IsSomeCore, IsTop, HasScheme};
 ghost use Rattle.hm_scope_interface_entries.specs.ExportedEntries.{AreTypeEntries, AreSynonymEntries, AreConstructorEntries, AreValueEntries, AreTypesOf, AreConstructorsOf, AreValuesOf, HasSoundSynonyms, HasDistinctParameters};
 ghost use Rattle.hm_scope_tables.specs.KnownTables.{entity_at};
 ghost use Rattle.hm_names.specs.ModuleCores.{ModuleCore};
@@ -237,6 +237,68 @@ fn add_values(
     Ok(())
 }
 
+/// Returns whether an exported variable is one of the core's own.
+fn is_own(home: &str, own: &TextSet<'_>, exported: &Exported) -> bool
+    ensures { IsTrue result → (exported.now.entity.«module» ≡ home.now) × Contains own.now exported.now.entity.name }
+{
+    let name = exported.entity.name.as_str();
+    if exported.entity.module.as_str() == home {
+        return own.contains(name);
+    }
+    false
+}
+
+/// Returns whether all exported variables are the core's own.
+fn are_own(home: &str, own: &TextSet<'_>, exports: &[Exported]) -> bool
+    ensures { IsTrue result → All (λ x. (x.entity.«module» ≡ home.now) × Contains own.now x.entity.name) exports.now }
+{
+    for exported in exports {
+        if !is_own(home, own, exported) {
+            return false;
+        }
+    }
+    true
+}
+
+/// Adds the entry of one of the core's own variables.
+fn add_own_value(
+    alloc: Global,
+    entries: &mut Vec<ValueEntry>,
+    schemes: &Schemes,
+    exported: &Exported,
+) -> Result<(), AllocError>
+    ensures { OnOk result ((c : ModuleCore) (xs : List Exported) → IsTop c exported.now.entity
+        → AreOrdered (map (λ x. x.name) (xs ++ exported.now ∷ []))
+        → AreValueEntries c (scheme_of schemes.now) xs entries.old.items
+        → AreValueEntries c (scheme_of schemes.now) (xs ++ exported.now ∷ []) entries.new.items) }
+{
+    let Some(scheme) = schemes.get(exported.entity.name.as_str()) else {
+        return Ok(());
+    };
+    entries.push(ValueEntry {
+        name: exported.name.copy()?,
+        entity: exported.entity.copy()?,
+        scheme: scheme.copy(alloc)?,
+    })?;
+    Ok(())
+}
+
+/// Returns the entries of the core's own variables.
+fn own_value_entries(
+    alloc: Global,
+    schemes: &Schemes,
+    exports: &[Exported],
+) -> Result<Vec<ValueEntry>, AllocError>
+    ensures { IfOk result (λ entries. (c : ModuleCore) → All (λ x. IsTop c x.entity) exports.now → AreOrdered (map (λ x. x.name) exports.now)
+        → AreValueEntries c (scheme_of schemes.now) exports.now entries.items) }
+{
+    let mut entries = Vec::with_capacity(alloc, exports.len())?;
+    for exported in exports {
+        add_own_value(alloc, &mut entries, schemes, exported)?;
+    }
+    Ok(entries)
+}
+
 /// The entries of the types and synonyms that a core exports.
 #[derive(Drop)]
 pub struct TypeEntries {
@@ -282,8 +344,8 @@ pub fn constructor_entries(
     Ok(entries)
 }
 
-// Why: docs/DECISIONS.md, "One pass".
-/// Returns the entries of the variables that a core exports.
+// Why: docs/DECISIONS.md, "One pass", "No table of imports".
+/// Returns the entries of the variables that a core exports. Needs no table of the imported ones, if it exports none of them.
 pub fn value_entries<'a>(
     alloc: Global,
     core: &'a Core,
@@ -294,18 +356,19 @@ pub fn value_entries<'a>(
     requires interfaces { map (λ f. f.now) interfaces.now ≡ core.now.interfaces }
     ensures { IfOk result (λ entries. AreValueEntries core.now (scheme_of schemes.now) core.now.exported_values entries.items) }
 {
+    let home = core.name.as_str();
+    let own = bound_variables(alloc, core.decls.as_slice())?;
+    let exports = core.exported_values.as_slice();
+    if are_own(home, &own, exports) {
+        return Ok(own_value_entries(alloc, schemes, exports)?);
+    }
     let values = Values {
-        home: core.name.as_str(),
-        own: bound_variables(alloc, core.decls.as_slice())?,
+        home,
+        own,
         schemes,
         imported: known_values(alloc, interfaces)?,
     };
     let mut entries = Vec::new(alloc);
-    add_values(
-        alloc,
-        &mut entries,
-        &values,
-        core.exported_values.as_slice(),
-    )?;
+    add_values(alloc, &mut entries, &values, exports)?;
     Ok(entries)
 }
