@@ -110,7 +110,7 @@ fn all_ascend(groups: &[Vec<usize>]) -> bool
 fn first_members(alloc: Global, groups: &[Vec<usize>]) -> Result<Option<Vec<usize>>, AllocError>
     ensures { IfOk result (λ found. IfSome found (λ leasts. AreLeasts (lists groups.now) leasts.items)) }
 {
-    let mut leasts = Vec::new(alloc);
+    let mut leasts = Vec::with_capacity(alloc, groups.len())?;
     for number in 0..groups.len() {
         let group = groups[number].as_slice();
         if group.is_empty() {
@@ -183,7 +183,7 @@ fn reached_within(
     ensures near { IfOk result (λ marks. (x : ℕ) → IsMarked marks.items x → Reaches (lists rows.now) (least_of leasts.now (number_of numbers.now x)) x) }
 {
     let mut marks = vec![in alloc; false; rows.len()]?;
-    let mut waiting = Vec::new(alloc);
+    let mut waiting = Vec::with_capacity(alloc, leasts.len())?;
     for least in leasts {
         waiting.push(*least)?;
     }
@@ -270,7 +270,7 @@ fn is_least_first(alloc: Global, leasts: &[usize], earliest: &[usize]) -> Result
     requires { length earliest.now ≡ length leasts.now }
     ensures { IfOk result (λ first. IsTrue first → IsLeastFirst leasts.now earliest.now) }
 {
-    let mut places = Vec::new(alloc);
+    let mut places = Vec::with_capacity(alloc, leasts.len())?;
     for number in 0..leasts.len() {
         let place = place_before(leasts, &places, number);
         if place > earliest[number] {

@@ -341,6 +341,36 @@ fn sorted_by_reach(
     placed_when_ready(alloc, back, components, &numbers, &mut left)
 }
 
+/// Returns whether no edge of a row leads to a node after this one.
+fn leads_back(row: &[usize], node: usize) -> bool {
+    for to in row {
+        if *to > node {
+            return false;
+        }
+    }
+    true
+}
+
+/// Returns whether no edge leads to a later node.
+fn all_lead_back(rows: &[Vec<usize>]) -> bool {
+    for node in 0..rows.len() {
+        if !leads_back(&rows[node], node) {
+            return false;
+        }
+    }
+    true
+}
+
+/// Returns a list with only this node for each node, in their order.
+fn lone_nodes(alloc: Global, count: usize) -> Result<Vec<Vec<usize>>, AllocError> {
+    let mut components = Vec::with_capacity(alloc, count)?;
+    for node in 0..count {
+        add_component(alloc, &mut components, node)?;
+    }
+    Ok(components)
+}
+
+// Why: docs/DECISIONS.md, "Edges that lead back".
 /// Returns the likely groups of a graph in their order. `back` has its edges reversed.
 pub(crate) fn candidate_groups(
     alloc: Global,
@@ -351,6 +381,9 @@ pub(crate) fn candidate_groups(
     requires back_closed { IsClosed (lists back.now) }
     requires len { length back.now ≡ length rows.now }
 {
+    if all_lead_back(rows) {
+        return Ok(lone_nodes(alloc, rows.len())?);
+    }
     let order = finish_order(alloc, rows)?;
     let numbers = component_numbers(alloc, back, &order)?;
     let components = lists_by_number(alloc, &numbers)?;
