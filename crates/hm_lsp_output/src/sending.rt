@@ -19,6 +19,11 @@ pub enum SendFault {
 }
 
 impl From<AllocError> for SendFault {
+    ghost use Rattle.std.specs.Prelude.{◌≡◌};
+    ghost use Rattle.hm_lsp_output.specs.declared.sending.SendFault.TheVariants.{Memory};
+
+    ghost from_gives = { λ _ fault. fault ≡ Memory };
+
     fn from(_error: AllocError) -> SendFault {
         SendFault::Memory
     }

@@ -61,6 +61,14 @@ impl Folders {
         self.are_open
     }
 
+    /// Returns the first folder with only the sources that have these names.
+    fn first_with(&self, alloc: Global, names: &[String]) -> Result<Folder, AllocError> {
+        match self.folders.first() {
+            Some(folder) => folder_with(alloc, folder.path(), names),
+            None => folder_with(alloc, "", names),
+        }
+    }
+
     // Why: docs/DECISIONS.md, "Folders of the client".
     /// Takes the folders that the client opens. If it opens none, they stay as they are. If it lists sources, the first folder has these, and there is
     /// no other one.
@@ -70,13 +78,9 @@ impl Folders {
             self.folders = folders_at(rt, &opened.folders)?;
         }
         if let Some(names) = &opened.sources {
-            let path = match self.folders.first() {
-                Some(folder) => folder.path(),
-                None => "",
-            };
-            let listed = folder_with(rt.alloc(), path, names)?;
-            self.folders.clear();
-            self.folders.push(listed)?;
+            let mut folders = Vec::new(rt.alloc());
+            folders.push(self.first_with(rt.alloc(), names)?)?;
+            self.folders = folders;
         }
         Ok(())
     }
