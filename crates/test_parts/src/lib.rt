@@ -1,6 +1,8 @@
-//! Tests of tokens, trees, the nesting of sources, graphs, import plans and hints.
+//! Tests of tokens, trees, the nesting of sources, graphs, import plans, hints and edits.
 #![tactic(auto)]
 
+#[cfg(test)]
+mod edits;
 #[cfg(test)]
 mod groups;
 #[cfg(test)]

@@ -1,0 +1,5 @@
+pub mod Edited
+pub mod Cursors
+pub mod EditSteps
+pub mod Candidates
+pub mod Worked
