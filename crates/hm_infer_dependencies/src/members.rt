@@ -35,7 +35,7 @@ pub fn group_members(
     requires { All (λ j. j < length rows.now) group.now }
     ensures { IfOk result (λ members. AreMembersOf (lists rows.now) group.now members.items) }
 {
-    let mut members = Vec::new(alloc);
+    let mut members = Vec::with_capacity(alloc, group.len())?;
     for node in group {
         add_row(&mut members, &rows[*node], *node)?;
     }

@@ -113,7 +113,8 @@ pub fn node_list<'a>(
     ensures twice { result ≡ Err GroupFault.Repeated → (all : Declarations) → AreSigned all signed.now → IsRepeated (list_nodes all (declarations decls.now)) }
 {
     let mut numbers = Numbers::new(alloc);
-    let mut owners = Vec::new(alloc);
+    numbers.reserve(decls.len())?;
+    let mut owners = Vec::with_capacity(alloc, decls.len())?;
     let mut owner = None;
     for behind in 0..decls.len() {
         let place = decls.len() - 1 - behind;

@@ -103,6 +103,17 @@ impl<'a> Numbers<'a> {
         }
     }
 
+    /// Makes room for `count` more nodes, so that the list and the table grow only once.
+    pub(crate) fn reserve(&mut self, count: usize) -> Result<(), AllocError>
+        ensures { self.new ≡ self.old }
+    {
+        self.nodes.reserve(count)?;
+        if count > FEW {
+            self.table.reserve(count)?;
+        }
+        Ok(())
+    }
+
     /// Returns the number of nodes.
     pub fn len(&self) -> usize
         ensures { result ≡ length self.now }
@@ -182,12 +193,23 @@ impl<'a> Numbers<'a> {
     }
 }
 
+/// Returns whether two keys are those of one variable. Compares the texts first, because qualifiers are mostly equal.
+fn is_same(left: &LentName<'_>, right: &LentName<'_>) -> bool
+    ensures { IsTrue result ↔ (variable_of_key left.now ≡ variable_of_key right.now) }
+{
+    let has_text = left.text == right.text;
+    if !has_text {
+        return false;
+    }
+    *left == *right
+}
+
 /// Returns whether a node is this variable.
 fn is_node(node: &Option<LentName<'_>>, key: &LentName<'_>) -> bool
     ensures { IsTrue result ↔ (option_map variable_of_key node.now ≡ Some (variable_of_key key.now)) }
 {
     match node {
-        Some(name) => *name == *key,
+        Some(name) => is_same(name, key),
         None => false,
     }
 }

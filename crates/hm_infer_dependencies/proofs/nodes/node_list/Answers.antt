@@ -14,6 +14,6 @@ loop-behind-preserved c =
     }
 
 pub returns-in_err-owner-clause-twice : goal.returns-in_err-owner-clause-twice
-returns-in_err-owner-clause-twice c = passed_on c.from_residual.result c.in_err-owner.field-0.0 c.from_residual.ensures.1 (λ e all g.
+returns-in_err-owner-clause-twice c = passed_on c.from_residual-in_err-owner.result c.in_err-owner.field-0.0 c.from_residual-in_err-owner.ensures.1 (λ e all g.
     let s : IsStep c.args.decls.now c.loop-behind.behind c.index-decls-place.result _ = is_step c.args.decls.now c.loop-behind.behind c.index-decls-place.result _ c.loop-behind-test.true c.index-decls-place.is refl in
     repeated_list all c.args.decls.now c.loop-behind.behind c.index-decls-place.result _ _ s (c.loop-behind.invariant.nodes all g) (c.in_err-owner.ensures.twice (ap Err e) all g))
