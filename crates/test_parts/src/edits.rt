@@ -31,7 +31,8 @@ fn position(at: [usize; 2]) -> Position {
 fn makes(
     alloc: Global,
     changes: &[Change],
-    wanted: Option<(&str, [u32; 2])>,
+    wanted: Option<&str>,
+    end: [u32; 2],
 ) -> Result<bool, AllocError> {
     let mut edits = Vec::new(alloc);
     for change in changes {
@@ -45,10 +46,14 @@ fn makes(
     let Some(made) = edited_text(alloc, TEXT, &edits)? else {
         return Ok(wanted.is_none());
     };
-    let Some((text, [line, column])) = wanted else {
-        return Ok(false);
+    let end = Place {
+        line: end[0],
+        column: end[1],
     };
-    Ok(made.text.as_slice() == text.as_bytes() && made.new_end == Place { line, column })
+    match wanted {
+        Some(text) => Ok(made.text.as_slice() == text.as_bytes() && made.new_end == end),
+        None => Ok(false),
+    }
 }
 
 /// Returns whether all rows are as wanted.
@@ -73,11 +78,11 @@ fn all_as_wanted(alloc: Global) -> Result<bool, AllocError> {
         end: [5, 1],
         text: "",
     };
-    let one = makes(alloc, &[inside], Some(("f zz y\ng\n", [1, 5])))?;
-    let two = makes(alloc, &[first, last], Some(("a f x y\nh\nk\n", [3, 2])))?;
-    let reversed = makes(alloc, &[last, first], None)?;
-    let beyond = makes(alloc, &[outside], None)?;
-    let none = makes(alloc, &[], None)?;
+    let one = makes(alloc, &[inside], Some("f zz y\ng\n"), [1, 5])?;
+    let two = makes(alloc, &[first, last], Some("a f x y\nh\nk\n"), [3, 2])?;
+    let reversed = makes(alloc, &[last, first], None, [0, 0])?;
+    let beyond = makes(alloc, &[outside], None, [0, 0])?;
+    let none = makes(alloc, &[], None, [0, 0])?;
     Ok(one && two && reversed && beyond && none)
 }
 
