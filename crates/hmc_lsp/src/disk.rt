@@ -2,11 +2,22 @@
 
 use hm_lsp_server::SourceFile;
 use std::alloc::{AllocError, Global};
+use std::fs::File;
+use std::io::Read;
 use std::path::AsPath;
 use std::{fs, str};
 
 /// The most files that are read.
 const MOST_FILES: usize = 4096;
+
+/// The most bytes that are read of a source: one more than a source may have.
+const MOST_BYTES: u64 = 1_048_577;
+
+/// The most bytes that are read of a list.
+const MOST_LISTED: u64 = 1_048_576;
+
+/// The most folders that are searched, besides those where the search begins.
+const MOST_FOLDERS: usize = 65_536;
 
 /// The deepest folder that is searched.
 const DEEPEST: usize = 8;
@@ -22,13 +33,38 @@ pub(crate) struct Folder {
     listed: Option<Vec<String>>,
 }
 
+/// The sources that a search found.
+#[derive(Drop)]
+struct Found {
+    files: Vec<SourceFile>,
+    /// How many folders were searched below those where the search began.
+    folders: usize,
+}
+
+// Why: docs/DECISIONS.md, "What is read of the disk".
+/// Returns the first bytes of a plain file, up to this many. `None` is returned if it can't be read.
+fn read_file(rt: &HostRuntime, path: &str, most: u64) -> Option<Vec<u8>> {
+    if !fs::metadata(rt, path).ok()?.is_file() {
+        return None;
+    }
+    let file = File::open(rt, path).ok()?;
+    let mut bytes = Vec::new(rt.alloc());
+    file.take(most).read_to_end(&mut bytes).ok()?;
+    Some(bytes)
+}
+
+/// Returns the text of a source. `None` is returned if it can't be read.
+pub(crate) fn read_source(rt: &HostRuntime, path: &str) -> Option<Vec<u8>> {
+    read_file(rt, path, MOST_BYTES)
+}
+
 /// Adds the sources in a folder and in the folders below it.
 fn add_sources(
     rt: &HostRuntime,
     alloc: Global,
     folder: &str,
     depth: usize,
-    found: &mut Vec<SourceFile>,
+    found: &mut Found,
 ) -> Result<(), AllocError> {
     let Ok(entries) = fs::read_dir(rt, folder) else {
         return Ok(());
@@ -37,7 +73,7 @@ fn add_sources(
         let Ok(entry) = entry else {
             continue;
         };
-        if found.len() >= MOST_FILES || entry.file_name().starts_with('.') {
+        if found.files.len() >= MOST_FILES || entry.file_name().starts_with('.') {
             continue;
         }
         let Ok(kind) = entry.file_type() else {
@@ -45,12 +81,13 @@ fn add_sources(
         };
         let path = String::from_str(alloc, entry.path().path_text())?;
         if kind.is_dir() {
-            if depth < DEEPEST {
+            if depth < DEEPEST && found.folders < MOST_FOLDERS {
+                found.folders += 1;
                 add_sources(rt, alloc, path.as_str(), depth + 1, found)?;
             }
         } else if kind.is_file() && path.as_str().ends_with(".hs") {
-            if let Ok(text) = fs::read(rt, path.as_str()) {
-                found.push(SourceFile { path, text })?;
+            if let Some(text) = read_source(rt, path.as_str()) {
+                found.files.push(SourceFile { path, text })?;
             }
         }
     }
@@ -73,7 +110,7 @@ fn path_below(alloc: Global, folder: &str, name: &str) -> Result<String, AllocEr
 fn listed_in(rt: &HostRuntime, folder: &str) -> Result<Option<Vec<String>>, AllocError> {
     let alloc = rt.alloc();
     let list = path_below(alloc, folder, LIST)?;
-    let Ok(text) = fs::read(rt, list.as_str()) else {
+    let Some(text) = read_file(rt, list.as_str(), MOST_LISTED) else {
         return Ok(None);
     };
     let Ok(text) = str::from_utf8(text.as_slice()) else {
@@ -123,7 +160,7 @@ fn add_listed(
         if found.len() >= MOST_FILES {
             return Ok(());
         }
-        if let Ok(text) = fs::read(rt, path.as_str()) {
+        if let Some(text) = read_source(rt, path.as_str()) {
             let path = String::from_str(alloc, path.as_str())?;
             found.push(SourceFile { path, text })?;
         }
@@ -138,16 +175,20 @@ pub(crate) fn sources_of(
     alloc: Global,
     folders: &[Folder],
 ) -> Result<Vec<SourceFile>, AllocError> {
-    let mut found = Vec::new(alloc);
+    let mut found = Found {
+        files: Vec::new(alloc),
+        folders: 0,
+    };
     for folder in folders {
         match &folder.listed {
-            Some(listed) => add_listed(rt, alloc, listed.as_slice(), &mut found)?,
+            Some(listed) => add_listed(rt, alloc, listed.as_slice(), &mut found.files)?,
             None => add_sources(rt, alloc, folder.path.as_str(), 0, &mut found)?,
         }
     }
-    found.sort_by(|a, b| a.path.as_str().cmp(b.path.as_str()))?;
-    found.dedup_by(|a, b| a.path.as_str() == b.path.as_str());
-    Ok(found)
+    let mut files = found.files;
+    files.sort_by(|a, b| a.path.as_str().cmp(b.path.as_str()))?;
+    files.dedup_by(|a, b| a.path.as_str() == b.path.as_str());
+    Ok(files)
 }
 
 /// Returns whether a path below a folder is that of a source: its name ends with `.hs`, and neither its name nor one of its folders is hidden or too deep.

@@ -9,6 +9,7 @@ mod folders;
 ghost use Rattle.std.specs.Prelude.{OnOk};
 ghost use Rattle.hm_lsp_server.specs.Servers.{IsOrderly};
 
+use crate::disk::read_source;
 use crate::folders::Folders;
 use core::thread::Stack;
 use hm_lsp_frames::{Frame, Frames};
@@ -21,7 +22,7 @@ use std::io::Read;
 use std::process::ExitCode;
 use std::sync::Wait;
 use std::thread::{Promise, Threads};
-use std::{env, fs, slice, thread};
+use std::{env, slice, thread};
 
 /// The server, with the folders whose files it holds.
 #[derive(Drop)]
@@ -88,7 +89,7 @@ fn read_files<T: Threads + Wait + Sync>(
         let Some(path) = serving.folders.source_path(host.alloc(), uri.as_str())? else {
             continue;
         };
-        let text = fs::read(host, path.as_str()).ok();
+        let text = read_source(host, path.as_str());
         serving.server.read_file(rt, uri.as_str(), text)?;
     }
     Ok(())
@@ -219,7 +220,8 @@ fn take_bytes<T: Threads + Wait + Sync>(
     Ok(if is_sent(host, &sent)? { None } else { Some(4) })
 }
 
-/// Returns the folders of the command line. `FOLDER` is the only one. `--start FOLDER` is the one for a client that opens none, and so is no word.
+/// Returns the folders of the command line. `FOLDER` is the only one. With `--start FOLDER` or without words, those that the client opens count.
+/// `FOLDER`, or the folder where the server starts, is for a client that opens none.
 fn named_folders(host: &HostRuntime) -> Result<Folders, AllocError> {
     let Ok(words) = env::args(host) else {
         return Folders::new(host, None, true);
