@@ -5,7 +5,7 @@ use Rattle.hm_lex.specs.declared.token.Place.{Place}
 use Rattle.hm_names.specs.declared.faults.Fault.{Fault}
 use Rattle.hm_names.specs.declared.faults.Kind.{Kind}
 use Rattle.hm_names.specs.declared.faults.Kind.TheVariants.{NotExported, Duplicate, NoBinding, Unbound, Ambiguous, ExportClash, NotImported, NonLinear, Arity, ClauseLength, Untyped, Recursive}
-use Rattle.hm_service_fixes.specs.Fixes.{IsFix, IsKnown, IsSameFault, IsStill, had, left_out, skipped, unchecked}
+use Rattle.hm_service_fixes.specs.Fixes.{IsFix, IsKnown, IsSameFault, IsSkipKnown, IsStill, had, left_out, skipped, unchecked}
 use Rattle.hm_service_fixes.specs.Judged.{HasAccepted, HasFaultAt, IsNamed, JudgedSet}
 use Rattle.hm_service_fixes.specs.Moves.{IsMoved, ahead, after, below, on_line}
 use Rattle.hm_service_fixes.specs.Phases.{IsEarlier, first_phase}
@@ -50,6 +50,9 @@ published_failed found i e = cc
 
 failed_skipped : (found : List Fault) → Failed found ≡ Skipped → ⊥
 failed_skipped found e = cc
+
+published_skipped : (i : Interface) → Published i ≡ Skipped → ⊥
+published_skipped i e = cc
 
 skipped_published : (i : Interface) → Skipped ≡ Published i → ⊥
 skipped_published i e = cc
@@ -114,17 +117,19 @@ good : (f : Fault) (i : Interface) (c : SourceChange) → IsFix (one (Failed (f 
 good f i c = record {
   checked = refl;
   gone = λ x g h. absurd (no_fault i c.source x g h);
-  accepted = λ x h. absurd (no_accepted (f ∷ []) x h);
+  accepted = λ on x h. absurd (no_accepted (f ∷ []) x h);
   known = λ x g h. absurd (no_fault i c.source x g h);
+  skips = λ x h. absurd (published_skipped i h.skipped.1);
 }
 
 hidden : (f g : Fault) (c : SourceChange) → f.kind ≡ Unbound → g.kind ≡ Untyped → ¬ (IsStill c g) → IsFix (one (Failed (f ∷ []))) (one (Failed (g ∷ []))) c
 hidden f g c names types gone = record {
   checked = refl;
   gone = λ x d h. subst (λ e. ¬ (IsStill c e)) (sym (one_fault g d h.found h.failed.failed h.among)) gone;
-  accepted = λ x h. absurd (no_accepted (f ∷ []) x h);
+  accepted = λ on x h. absurd (no_accepted (f ∷ []) x h);
   known = λ x d h. left_out {i = h.number} {found = f ∷ []} {f = f} (record { named = record { inside = h.failed.named.inside; named = h.failed.named.named }; failed = refl }) (0, omega arith, refl)
       (earlier f.kind d.kind names (ap (λ (e : Fault). e.kind) (one_fault g d h.found h.failed.failed h.among) ∙ types));
+  skips = λ x h. absurd (failed_skipped (g ∷ []) h.skipped.1);
 }
 
 not_still : (before : JudgedSet) (f : Fault) (c : SourceChange) → c.source ≡ 0 → IsStill c f → ¬ (IsFix before (one (Failed (f ∷ []))) c)
@@ -154,7 +159,23 @@ no_C : (i : Interface) → ¬ (HasAccepted (two (Published i) Skipped) (codes "C
 no_C i h = no_C_at i h.number h.named h.accepted
 
 not_importer : (f : Fault) (i j : Interface) (c : SourceChange) → ¬ (IsFix (two (Failed (f ∷ [])) (Published j)) (two (Published i) Skipped) c)
-not_importer f i j c fix = no_C i (fix.accepted (codes "C") (accepted_C (f ∷ []) j))
+not_importer f i j c fix = no_C i (fix.accepted refl (codes "C") (accepted_C (f ∷ []) j))
+
+not_hidden : (f : Fault) → ¬ (IsSkipKnown (one (Failed (f ∷ []))) (codes "A"))
+not_hidden f (inl clear) = false≢true (sym clear)
+not_hidden f (inr is) = failed_skipped (f ∷ []) is.1.1
+
+not_skipped : (f : Fault) (c : SourceChange) → c.source ≡ 0 → ¬ (IsFix (one (Failed (f ∷ []))) (one Skipped) c)
+not_skipped f c first fix = not_hidden f (fix.skips (codes "A") (record { number = 0; skipped = (record { inside = omega arith; named = refl }, refl); own = ap Some (sym first) }))
+
+unread : (before : JudgedSet) (i : Interface) (c : SourceChange) → before.checked ≡ false → IsFix before (one (Published i)) c
+unread before i c clear = record {
+  checked = refl;
+  gone = λ x g h. absurd (no_fault i c.source x g h);
+  accepted = λ on x h. absurd (false≢true (sym clear ∙ on));
+  known = λ x g h. absurd (no_fault i c.source x g h);
+  skips = λ x h. absurd (published_skipped i h.skipped.1);
+}
 
 pub worked_fixes : FixRow
-worked_fixes = record { good = good; hidden = hidden; not_still = not_still; not_elsewhere = not_elsewhere; not_importer = not_importer }
+worked_fixes = record { good = good; unread = unread; hidden = hidden; not_still = not_still; not_elsewhere = not_elsewhere; not_importer = not_importer; not_skipped = not_skipped }

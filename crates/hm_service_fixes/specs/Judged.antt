@@ -39,3 +39,9 @@ pub record HasFaultAt (j : JudgedSet) (n : ℕ) (x : List ℕ) (f : Fault) : Typ
   pub failed : IsFailedAs j x number found
   pub own : slice_get j.sources number ≡ Some n
   pub among : Contains found f
+
+-- a module of source number n with the name x is skipped
+pub record HasSkippedAt (j : JudgedSet) (n : ℕ) (x : List ℕ) : Type 0 where
+  pub number : ℕ
+  pub skipped : IsSkippedAs j x number
+  pub own : slice_get j.sources number ≡ Some n

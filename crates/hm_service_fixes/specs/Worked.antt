@@ -1,5 +1,5 @@
 -- Worked examples: places after a change, phases of faults, and changes that are fixes and that aren't.
-use Rattle.std.specs.Prelude.{◌≡◌, ℕ, zero, suc, [], ◌∷◌, true}
+use Rattle.std.specs.Prelude.{◌≡◌, ℕ, zero, suc, [], ◌∷◌, false, true}
 use Rattle.hm_lex.specs.declared.token.Place.{Place}
 use Rattle.hm_names.specs.declared.faults.Fault.{Fault}
 use Rattle.hm_names.specs.declared.faults.Kind.TheVariants.{NotExported, NotImported, Unbound, Untyped}
@@ -47,11 +47,13 @@ two_statuses s t (suc i) = t
 abbrev pub two : Status → Status → JudgedSet
 two s t = record { set = record { modules = module_A ∷ module_C ∷ []; plan = [] ∷ [] ∷ [] }; status = two_statuses s t; sources = 0 ∷ 1 ∷ []; checked = true }
 
--- A change after which the module is good is a fix. So is one after which a type fault shows that another fault had hidden. A change isn't a fix if the
--- fault stays, if the module has another fault of the same phase then, or if a module that was accepted is skipped then
+-- A change after which the module is good is a fix, also if its source wasn't checked before. So is one after which a type fault shows that another fault had hidden. A change isn't a fix if the
+-- fault stays, if the module has another fault of the same phase then, if it is skipped then, or if a module that was accepted is
 pub record FixRow : Type 0 where
   pub good : (f : Fault) (i : Interface) (c : SourceChange) → IsFix (one (Failed (f ∷ []))) (one (Published i)) c
   pub hidden : (f g : Fault) (c : SourceChange) → f.kind ≡ Unbound → g.kind ≡ Untyped → ¬ (IsStill c g) → IsFix (one (Failed (f ∷ []))) (one (Failed (g ∷ []))) c
   pub not_still : (before : JudgedSet) (f : Fault) (c : SourceChange) → c.source ≡ 0 → IsStill c f → ¬ (IsFix before (one (Failed (f ∷ []))) c)
   pub not_elsewhere : (f g : Fault) (c : SourceChange) → c.source ≡ 0 → f.kind ≡ Untyped → ¬ (IsSameFault c.replaced f g) → ¬ (IsFix (one (Failed (f ∷ []))) (one (Failed (g ∷ []))) c)
   pub not_importer : (f : Fault) (i j : Interface) (c : SourceChange) → ¬ (IsFix (two (Failed (f ∷ [])) (Published j)) (two (Published i) Skipped) c)
+  pub unread : (before : JudgedSet) (i : Interface) (c : SourceChange) → before.checked ≡ false → IsFix before (one (Published i)) c
+  pub not_skipped : (f : Fault) (c : SourceChange) → c.source ≡ 0 → ¬ (IsFix (one (Failed (f ∷ []))) (one Skipped) c)

@@ -11,6 +11,7 @@ pub mod laws;
 mod modules;
 mod moves;
 mod phases;
+mod skips;
 
 pub use crate::changes::SourceChange;
 pub use crate::deciding::is_fix;

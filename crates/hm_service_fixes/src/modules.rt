@@ -1,7 +1,7 @@
 //! Whether modules that were accepted are still so.
 ghost use Rattle.std.specs.Prelude.{◌≡◌, ◌<◌, ◌≤◌, IsTrue, List, ℕ, false, length};
 ghost use Rattle.hm_service_fixes.specs.Judged.{HasAccepted};
-ghost use Rattle.hm_service_fixes.specs.Steps.{HasBetween, IsAcceptedAs, IsKeptAt};
+ghost use Rattle.hm_service_fixes.specs.Steps.{AreKept, HasBetween, IsAcceptedAs, IsKeptAt};
 ghost use Rattle.hm_service_fixes.specs.Views.{judged_of};
 
 use crate::judged::{Judged, count_of, is_accepted, is_accepted_as, name_of};
@@ -44,11 +44,14 @@ fn is_kept(before: &Judged<'_>, after: &Judged<'_>, number: usize) -> bool
     has_accepted(after, name_of(before, number), number)
 }
 
-/// Returns whether all modules that were accepted are accepted after the change.
+/// Returns whether all modules that were accepted are accepted after the change, if the source was checked before.
 pub(crate) fn are_kept(before: &Judged<'_>, after: &Judged<'_>) -> bool
-    ensures yes { IsTrue result → (x : List ℕ) → HasAccepted (judged_of before.now) x → HasAccepted (judged_of after.now) x }
-    ensures no { result ≡ false → ¬ ((x : List ℕ) → HasAccepted (judged_of before.now) x → HasAccepted (judged_of after.now) x) }
+    ensures yes { IsTrue result → AreKept (judged_of before.now) (judged_of after.now) }
+    ensures no { result ≡ false → ¬ (AreKept (judged_of before.now) (judged_of after.now)) }
 {
+    if !before.is_checked {
+        return true;
+    }
     'modules: for number in 0..count_of(before) {
         if !is_kept(before, after, number) {
             return false;

@@ -9,6 +9,7 @@ returns c = (
     gone = λ x g h. (c.are_all_fine.ensures.yes set x g h).0;
     accepted = c.are_kept.ensures.yes c.if-not-are_kept.false;
     known = λ x g h. (c.are_all_fine.ensures.yes set x g h).1;
+    skips = c.are_skips_known.ensures.yes c.if-not-are_skips_known.false;
   },
   λ fix. elim (cases_Bool c.are_all_fine.result) [
     | inl set ↦ set
