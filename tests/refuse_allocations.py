@@ -212,7 +212,8 @@ def refuse_in_messages(refusing, program):
 
 
 def session():
-    """Returns what a client sends that opens two documents, asks for a name, changes what it is, and asks again and more. Then the input ends."""
+    """Returns what a client sends that opens two documents, asks for a name, changes what it is, and asks again and more. Then it asks for the fixes of
+    a name, and the input ends."""
 
     def about(name, **params):
         return {"textDocument": {"uri": f"file:///{name}.hs", "languageId": "haskell", "version": 1}, **params}
@@ -227,10 +228,11 @@ def session():
         return {"id": number, "method": method, "params": about("A", position={"line": 0, "character": 17}, **params)}
 
     more = [ask(4, "textDocument/references"), ask(5, "textDocument/documentSymbol"), ask(6, "workspace/symbol", query="z"), ask(7, "textDocument/rename", newName="v"), ask(8, "textDocument/completion")]
+    fix = {"id": 9, "method": "textDocument/codeAction", "params": about("B", range={"start": {"line": 0, "character": 21}, "end": {"line": 0, "character": 27}})}
     change = {"method": "textDocument/didChange", "params": about("A", contentChanges=[lsp.change((0, 21), (0, 24), "(1)")])}
     start = [{"id": 1, "method": "initialize", "params": {}}, {"method": "initialized", "params": {}}]
-    texts = [opening("A", "module A where { x = 'c' ; y = x }"), opening("B", "module B where { z = w }")]
-    return b"".join(map(lsp.frame, [*start, *texts, hover(2), change, hover(3), *more]))
+    texts = [opening("A", "module A where { x = 'c' ; y = x }"), opening("B", "module B where { z = lenght [] }")]
+    return b"".join(map(lsp.frame, [*start, *texts, hover(2), change, hover(3), *more, fix]))
 
 
 def messages_in(printed):
@@ -281,8 +283,9 @@ def refuse_in_server(refusing, server):
     shown = [(it["params"]["uri"], [one["code"] for one in it["params"]["diagnostics"]]) for it in messages if it.get("method") == lsp.PUBLISHED]
     sizes = [len(it["result"]) for it in messages if it.get("id") in (4, 5, 6)]
     renamed = [it["result"]["documentChanges"][0]["edits"] for it in messages if it.get("id") == 7]
+    fixes = [[one["title"] for one in it["result"]] for it in messages if it.get("id") == 9]
     is_right = first.returncode == 1 and ["type Char" in it for it in hovers] == [True, False] and shown == [("file:///B.hs", ["unbound"])]
-    is_right &= sizes == [2, 3, 1] and [len(it) for it in renamed] == [2]
+    is_right &= sizes == [2, 3, 1] and [len(it) for it in renamed] == [2] and fixes == [["write 'length'"]]
     print(f"the server: {total} allocations: {dict(found)}{'' if is_right else ', FAILS where nothing is refused'}", flush=True)
     return is_right and not found["WRONG"]
 

@@ -4,8 +4,10 @@
 `server.py [PROGRAM]`: without PROGRAM, the proved program is run. Ends with 1 where a row differs.
 """
 import os
+import resource
 import sys
 import tempfile
+import threading
 
 sys.path.insert(0, os.path.join(os.path.dirname(os.path.dirname(os.path.abspath(__file__))), "tools"))
 import lsp  # noqa: E402
@@ -14,6 +16,8 @@ A = "module A where { f x = x ; g = f 1 }\n"
 B = "module B where { import A ; h :: Char -> Bool -> Char ; h c b = c ; k = h True 'c' ; m = g }\n"
 # The most seconds of processor time for the references and the symbols of a source of 1 MB.
 LONGEST = 15
+# The most bytes of addresses for a server that may read a file without an end: 1 GiB of them is its stack.
+MOST_MEMORY = 4 << 30
 # A module whose names begin with what no name of Prelude begins with, after a letter of two units of UTF-16 and four of UTF-8.
 V = "module V where { import A ; {- \U0001F600 -} data Wot = Wog Int | Woh ; vombat x = x ; vomble = A.g }"
 TYPED = "p = case f 1 of { 0 -> True ; _ -> False } ; "
@@ -304,6 +308,43 @@ def keep_faults(it):
     it.row("nothing is skipped any more", [it.shown.get(uri, []) for uri in (a, b)], [[], []])
 
 
+def fixes_at(it, doc, where):
+    """Returns the title of each fix for a range, with the code of the error that goes and what is written where."""
+    found = it.ask("textDocument/codeAction", textDocument=doc, range=where, context={"diagnostics": []})["result"]
+    edits = [each["edit"]["changes"][doc["uri"]] for each in found]
+    return [(each["title"], [one["code"] for one in each["diagnostics"]], [(e["range"], e["newText"]) for e in its]) for each, its in zip(found, edits)]
+
+
+def fix(it):
+    """Asks for fixes of names, of signatures and of brackets, and makes one of each text. B is open."""
+    doc = {"uri": it.uri("B.hs")}
+    near = "module B where { double x = x ; k = doubel 1 ; m = True 'c' ; n = dobule 'd' }\n"
+    signed = "module B where { h :: Int -> Bool ; h x = x }\n"
+    broken = "module B where { double x = x ; k = (double ; m = doubel 2 }\n"
+    rows = [
+        ("a name with a fault of a later phase behind it", near, "doubel 1", ("write 'double'", ["unbound"], [(between(near, "doubel"), "double")]), ["unbound"]),
+        ("a name beside one that is mended", near, "dobule", ("write 'double'", ["unbound"], [(between(near, "dobule"), "double")]), ["unbound"]),
+        ("a signature, by the place of its note", signed, "h :: Int", ("write 'h :: a -> a'", ["type"], [(between(signed, "h :: Int -> Bool"), "h :: a -> a")]), []),
+        ("a bracket of a text that can't be read", broken, " ; m", ("write ')'", ["syntax"], [(between(broken, "; m", 0), ")")]), ["unbound"]),
+    ]
+    for number, (what, text, part, wanted, left) in enumerate(rows):
+        it.notify("textDocument/didChange", textDocument={**doc, "version": 400 + 2 * number}, contentChanges=[{"text": text}])
+        it.settle()
+        found = fixes_at(it, doc, between(text, part))
+        it.row(f"a fix of {what}", found, [wanted])
+        it.row(f"no fix at the name of the module, beside {what}", fixes_at(it, doc, between(text, "module")), [])
+        changes = [{"range": where, "text": new} for _, _, edits in found for where, new in reversed(edits)]
+        it.notify("textDocument/didChange", textDocument={**doc, "version": 401 + 2 * number}, contentChanges=changes)
+        it.settle()
+        it.row(f"what is left after the fix of {what}", codes(it.shown.get(doc["uri"], [])), left)
+    it.row("all fixes of a text", len(fixes_at(it, doc, between(broken, broken))), 1)
+    it.row("fixes without a range", it.ask("textDocument/codeAction", textDocument=doc)["error"]["code"], -32602)
+    it.row("fixes of no document", it.ask("textDocument/codeAction", textDocument={"uri": it.uri("None.hs")}, range=between(B, "B"))["error"]["code"], -32602)
+    it.notify("textDocument/didChange", textDocument={**doc, "version": 500}, contentChanges=[{"text": B.replace("h True 'c'", "h 'c' True")}])
+    it.settle()
+    it.row("no fix of a good text", fixes_at(it, doc, between(B, B)), [])
+
+
 def escape_letters(it):
     """Opens a file of the folder by a URI with an escape that isn't needed. It is the same document."""
     it.notify("textDocument/didClose", textDocument={"uri": it.uri("A.hs")})
@@ -434,6 +475,38 @@ def open_folders(it):
             it.rows, it.wrong = it.rows + other.rows, it.wrong + other.wrong
 
 
+def read_plain_files(it):
+    """Opens folders with pipes, a device without an end and a source that is too long. A server that reads these to their ends is killed."""
+    fault, limit = "module F where { f = missing }", 1048576
+    rows = [
+        ("a list that names a pipe", "hmc.files", "F.hs\npipe.hs\n", {"F.hs": ["unbound"]}),
+        ("a list that names a device", "hmc.files", "/dev/zero\nF.hs\n", {"F.hs": ["unbound"]}),
+        ("a list that is a pipe", None, None, {"F.hs": ["unbound"]}),
+        ("a source of the greatest size", "G.hs", "module G where { g = missing }".ljust(limit), {"F.hs": ["unbound"], "G.hs": ["unbound"]}),
+        ("a source that is too long", "G.hs", "module G where { g = missing }".ljust(limit + 10), {"F.hs": ["unbound"], "G.hs": ["too-long"]}),
+    ]
+    for what, name, text, wanted in rows:
+        with tempfile.TemporaryDirectory() as top:
+            os.mkfifo(f"{top}/{'pipe.hs' if name else 'hmc.files'}")
+            for path, content in (("F.hs", fault), (name, text)):
+                if path is not None:
+                    with open(f"{top}/{path}", "w", encoding="utf-8") as file:
+                        file.write(content)
+            other = Client(it.program, top, [])
+            resource.prlimit(other.server.pid, resource.RLIMIT_AS, (MOST_MEMORY, MOST_MEMORY))
+            killer = threading.Timer(60, other.server.kill)
+            killer.start()
+            other.ask("initialize", capabilities={}, rootUri=f"file://{top}")
+            other.notify("initialized")
+            other.notify("workspace/didChangeWatchedFiles", changes=[{"uri": uri, "type": 2} for uri in (other.uri("pipe.hs"), "file:///dev/zero")])
+            other.settle()
+            found = {uri.rpartition("/")[2]: codes(messages) for uri, messages in other.shown.items()}
+            other.row(what, {name: them for name, them in found.items() if them}, wanted)
+            finish(other)
+            killer.cancel()
+            it.rows, it.wrong = it.rows + other.rows, it.wrong + other.wrong
+
+
 def close_output(it):
     """Starts a server whose output nobody reads, and one whose input ends."""
     other = Client(it.program, it.folder)
@@ -493,7 +566,7 @@ def main(program=lsp.PROVED):
             with open(os.path.join(folder, name), "w", encoding="utf-8") as file:
                 file.write(text)
         it = Client(os.path.abspath(program), folder)
-        for part in (start_and_check, look, mend, type_letters, keep_faults, escape_letters, move_diagnostics, watch_files, cancel, offer, open_folders, close_output, refer_often, nest_deeply, bad_input, finish):
+        for part in (start_and_check, look, mend, type_letters, keep_faults, fix, escape_letters, move_diagnostics, watch_files, cancel, offer, open_folders, read_plain_files, close_output, refer_often, nest_deeply, bad_input, finish):
             part(it)
     print(f"{it.rows - it.wrong} of {it.rows} rows as wanted")
     return 1 if it.wrong else 0

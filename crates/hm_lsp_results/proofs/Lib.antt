@@ -2,6 +2,7 @@ pub mod Chosen
 pub mod Found
 pub mod Listed
 pub mod Located
+pub mod Offered
 pub mod Referred
 pub mod Requests
 mod CompletionValues

@@ -1,4 +1,4 @@
--- The results of requests about the texts (Language Server Protocol 3.17, "Hover Request", "Goto Definition Request", "Code Action Request").
+-- The results of requests about the texts (Language Server Protocol 3.17, "Hover Request", "Goto Definition Request").
 use Rattle.std.specs.Prelude.{◌≡◌, ◌<◌, ◌+◌, ℕ, true, List, Option, None, Some, codes, option_map, slice_get, string_bytes}
 use Rattle.percent_encoding.specs.Percent.{percent_decode}
 use Rattle.serde_json.specs.Data.{Data}

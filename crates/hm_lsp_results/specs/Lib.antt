@@ -5,6 +5,7 @@ pub mod Matches
 pub mod Prepared
 pub mod Renames
 pub mod Symbols
+pub mod Actions
 pub mod Results
 pub mod Walks
 pub mod Worked

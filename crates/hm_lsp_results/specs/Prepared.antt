@@ -5,7 +5,7 @@ use Rattle.hm_lsp_positions.specs.declared.positions.Position.{Position}
 use Rattle.hm_lsp_values.specs.Renames.{IsTargetValue}
 use Rattle.hm_messages_json.specs.declared.message.Position.{Position as Place}
 use Rattle.hm_service_rename.specs.Prepared.{IsNotRenamable, IsPrepared, place_in}
-use Rattle.hm_service_rename.specs.declared.results.CheckedSet.{CheckedSet}
+use Rattle.hm_service_places.specs.declared.checked.CheckedSet.{CheckedSet}
 use Rattle.hm_service_rename.specs.declared.results.Prepared.{Prepared}
 use Rattle.hm_service_rename.specs.declared.results.Prepared.TheVariants.{Renamable}
 use Rattle.hm_service_rename.specs.declared.results.RenameRefusal.{RenameRefusal}

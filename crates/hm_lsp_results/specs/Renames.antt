@@ -6,7 +6,7 @@ use Rattle.hm_lsp_positions.specs.declared.positions.Position.{Position}
 use Rattle.hm_lsp_values.specs.Renames.{IsReplacement, document_edit_data, workspace_edit_data}
 use Rattle.hm_messages_json.specs.declared.message.Position.{Position as Place}
 use Rattle.hm_service_rename.specs.Renames.{IsRefused, IsRename, IsRenameResult, place_of}
-use Rattle.hm_service_rename.specs.declared.results.CheckedSet.{CheckedSet}
+use Rattle.hm_service_places.specs.declared.checked.CheckedSet.{CheckedSet}
 use Rattle.hm_service_rename.specs.declared.results.Rename.{Rename}
 use Rattle.hm_service_rename.specs.declared.results.RenameRefusal.{RenameRefusal}
 use Rattle.hm_service_rename.specs.declared.results.RenameRefusal.TheVariants.{NotAName, NotBound, NoName, NotRead, NotSame, NotWhole}

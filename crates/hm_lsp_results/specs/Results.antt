@@ -1,30 +1,24 @@
--- The results of requests about the texts, and their replies (Language Server Protocol 3.17, "Hover Request", "Goto Definition Request", "Code Action Request"; "Find References Request" and "Document Highlights Request" are in References, "Document Symbols Request" and "Workspace Symbols Request" in Symbols, "Rename Request" in Renames, "Prepare Rename Request" in Prepared, and "Completion Request" in Completions).
+-- The results of requests about the texts, and their replies (Language Server Protocol 3.17, "Hover Request", "Goto Definition Request"; "Code Action Request" is in Actions, "Find References Request" and "Document Highlights Request" are in References, "Document Symbols Request" and "Workspace Symbols Request" in Symbols, "Rename Request" in Renames, "Prepare Rename Request" in Prepared, and "Completion Request" in Completions).
 use Rattle.std.specs.Prelude.{◌≡◌, ◌≤◌, ◌⊎◌, ℕ, negsuc, Bool, true, List, Option, None, Some, codes, length, map, option_and_then, slice_get, string_bytes}
-use Rattle.serde_json.specs.Data.{Data, array, no_items, null}
+use Rattle.serde_json.specs.Data.{Data, null}
 use Rattle.serde_json.specs.Find.{as_bool, pointer}
-use Rattle.serde_json.specs.View.{items_of}
 use Rattle.hm_lsp_positions.specs.declared.changes.Range.{Range}
 use Rattle.hm_lsp_positions.specs.declared.positions.Position.{Position}
 use Rattle.hm_lsp_positions.specs.declared.units.Encoding.{Encoding}
-use Rattle.hm_messages_json.specs.declared.message.Position.{Position as Place}
 use Rattle.hm_lsp_session.specs.Params.{IsPositionIn, IsRangeIn, string_at}
 use Rattle.hm_lsp_session.specs.Replies.{refusal_data, reply_data}
 use Rattle.hm_lsp_session.specs.Stages.{code_of}
 use Rattle.hm_lsp_session.specs.declared.stages.Question.{Question}
 use Rattle.hm_lsp_session.specs.declared.stages.Question.TheVariants.{CodeAction, Completion, Definition, DocumentHighlight, DocumentSymbol, Hover, PrepareRename, References, Rename, WorkspaceSymbol}
 use Rattle.hm_lsp_session.specs.declared.stages.Refusal.TheVariants.{InvalidParams, RequestFailed}
-use Rattle.hm_lsp_values.specs.Diagnostics.{action_data}
 use Rattle.hm_lsp_values.specs.Names.{IsHover, IsLocation}
-use Rattle.hm_lsp_values.specs.Places.{IsPlaceAt}
-use Rattle.hm_service_messages.specs.Choices.{AreChosen, IsOffered}
-use Rattle.hm_service_messages.specs.declared.diagnostic.Diagnostic.{Diagnostic}
 use Rattle.hm_service_messages.specs.declared.spots.Bound.{Bound}
-use Rattle.hm_service_places.specs.Diagnostics.{AreDiagnosticsAt}
 use Rattle.hm_service_places.specs.declared.checked.Checked.{Checked}
 use Rattle.hm_service_places.specs.declared.places.AtPlace.{AtPlace}
 use Rattle.hm_service_rename.specs.declared.results.RenameRefusal.{RenameRefusal}
 use Rattle.hm_service_sources.specs.declared.held.HeldSource.{HeldSource}
-use Rattle.hm_lsp_results.specs.Asked.{HasNothingAt, HasUri, IsNamedAt, IsReadText, IsSourceIn, Subject}
+use Rattle.hm_lsp_results.specs.Actions.{IsActionsResult}
+use Rattle.hm_lsp_results.specs.Asked.{HasNothingAt, HasUri, IsNamedAt, IsSourceIn, Subject}
 use Rattle.hm_lsp_results.specs.Completions.{IsCompletionsResult}
 use Rattle.hm_lsp_results.specs.Prepared.{IsNotRenamableAt, IsPrepareValue}
 use Rattle.hm_lsp_results.specs.References.{IsHighlightsResult, IsReferencesResult}
@@ -54,29 +48,6 @@ IsBoundValue encoding sources held (Some b) value = IsBoundResult encoding sourc
 pub data IsDefinitionResult (encoding : Encoding) (sources : List Source) (held : List HeldSource) (c : Checked) (n : ℕ) (p : Position) (value : Data) : Type 0 where
   bound : {a : AtPlace} → IsNamedAt encoding held c n p a → IsBoundValue encoding sources held a.bound value → IsDefinitionResult encoding sources held c n p value
   not_bound : HasNothingAt encoding held c n p → value ≡ null → IsDefinitionResult encoding sources held c n p value
-
--- Actions
-
-abbrev pub actions_data : Encoding → List ℕ → List Diagnostic → Data
-actions_data encoding uri ds = array (items_of (map (action_data encoding uri) ds))
-
--- those of the source's diagnostics that overlap the range and whose edits the checker accepted, in order
-pub record AreOffered (encoding : Encoding) (held : List HeldSource) (c : Checked) (n : ℕ) (text : List ℕ) (range : Range) (chosen : List Diagnostic) : Type 0 where
-  pub ds : List Diagnostic
-  pub start : Place
-  pub end : Place
-  pub starts : IsPlaceAt encoding text range.start start
-  pub ends : IsPlaceAt encoding text range.end end
-  pub found : AreDiagnosticsAt (slice_get held n) c n ds
-  pub are : AreChosen (IsOffered start end) ds chosen
-
-pub data AreActions (encoding : Encoding) (sources : List Source) (held : List HeldSource) (c : Checked) (n : ℕ) (text : List ℕ) (range : Range) (value : Data) : Type 0 where
-  offered : {uri : List ℕ} {chosen : List Diagnostic} → HasUri sources n uri → AreOffered encoding held c n text range chosen → value ≡ actions_data encoding uri chosen → AreActions encoding sources held c n text range value
-  no_uri : length sources ≤ n → value ≡ array no_items → AreActions encoding sources held c n text range value
-
-pub data IsActionsResult (encoding : Encoding) (sources : List Source) (held : List HeldSource) (c : Checked) (n : ℕ) (range : Range) (value : Data) : Type 0 where
-  in_text : {text : List ℕ} → IsReadText held n text → AreActions encoding sources held c n text range value → IsActionsResult encoding sources held c n range value
-  unread : ((text : List ℕ) → ¬ (IsReadText held n text)) → value ≡ array no_items → IsActionsResult encoding sources held c n range value
 
 -- Replies
 
@@ -123,7 +94,7 @@ IsResultOf asked Definition n request result = IsResultAtPosition (IsDefinitionR
 IsResultOf asked References n request result = IsResultAtPosition (IsReferencesResult asked (with_declarations request) n) request result
 IsResultOf asked DocumentHighlight n request result = IsResultAtPosition (IsHighlightsResult asked n) request result
 IsResultOf asked DocumentSymbol n request result = (value : Data) × (IsSymbolsResult asked n value × (result ≡ Some value))
-IsResultOf asked CodeAction n request result = (r : Option Range) × (HasRange request r × IsResultFor (IsActionsResult asked.encoding asked.sources asked.held asked.checked n) r result)
+IsResultOf asked CodeAction n request result = (r : Option Range) × (HasRange request r × IsResultFor (IsActionsResult asked n) r result)
 IsResultOf asked Rename n request result = IsRenameRequestResult asked n request result
 IsResultOf asked PrepareRename n request result = IsResultAtPosition (IsPrepareValue asked n) request result
 IsResultOf asked Completion n request result = IsResultAtPosition (IsCompletionsResult asked n) request result

@@ -1,17 +1,15 @@
 //! Results of requests about the texts.
-ghost use Rattle.std.specs.Prelude.{◌≡◌, IfNone, IfOk, IfSome, List, map, ℕ};
+ghost use Rattle.std.specs.Prelude.{IfNone, IfOk, IfSome, List, ℕ};
 ghost use Rattle.serde_json.specs.View.{view};
 ghost use Rattle.hm_lsp_results.specs.Asked.{IsFoundAt, IsReadText, IsSourceIn, IsSpotOf};
-ghost use Rattle.hm_lsp_results.specs.Results.{AreActions, IsActionsResult, IsBoundResult, IsDefinitionResult, IsHoverResult, actions_data};
+ghost use Rattle.hm_lsp_results.specs.Results.{IsBoundResult, IsDefinitionResult, IsHoverResult};
 
 use crate::faults::ServerFault;
-use hm_lsp_positions::{Encoding, Position, Range, offset_of, position_of};
+use hm_lsp_positions::{Encoding, Position, offset_of, position_of};
 use hm_lsp_session::text_at;
 use hm_lsp_sources::{Source, name_of, number_of};
-use hm_lsp_values::{action_value, hover_value, location_value, place_at};
-use hm_service::{
-    AtPlace, Bound, Checked, Diagnostic, HeldSource, actions_in, diagnostics_of, place_of,
-};
+use hm_lsp_values::{hover_value, location_value};
+use hm_service::{AtPlace, Bound, Checked, HeldSource, place_of};
 use serde_json::Value;
 use std::alloc::{AllocError, Global};
 use std::sync::Wait;
@@ -142,45 +140,5 @@ pub(crate) fn definition<T: Threads + Wait + Sync>(
             None => Ok(Value::Null),
             Some(bound) => Ok(bound_value(asked, bound)?),
         },
-    }
-}
-
-/// Returns the actions of diagnostics in the document with this URI, in order.
-fn action_values(asked: &Asked<'_>, uri: &str, chosen: &[&Diagnostic]) -> Result<Value, AllocError>
-    ensures { IfOk result (λ value. view value ≡ actions_data asked.now.encoding uri.now (map (λ d. d.now) chosen.now)) }
-{
-    let mut values = Vec::new(asked.alloc);
-    'actions: for diagnostic in chosen {
-        values.push(action_value(asked.alloc, asked.encoding, uri, *diagnostic)?)?;
-    }
-    Ok(Value::Array(values))
-}
-
-/// Returns the actions for a range of a source whose text is this one.
-fn actions_of(
-    asked: &Asked<'_>,
-    source: usize,
-    text: &[u8],
-    range: Range,
-) -> Result<Value, AllocError>
-    ensures { IfOk result (λ value. AreActions asked.now.encoding asked.now.sources.now asked.now.held.now asked.now.checked.now source text.now range (view value)) }
-{
-    let Some(named) = asked.sources.get(source) else {
-        return Ok(Value::Array(Vec::new(asked.alloc)));
-    };
-    let start = place_at(asked.encoding, text, range.start);
-    let end = place_at(asked.encoding, text, range.end);
-    let found = diagnostics_of(asked.alloc, asked.held, asked.checked, source)?;
-    let chosen = actions_in(asked.alloc, found.as_slice(), start, end)?;
-    action_values(asked, named.uri.as_str(), chosen.as_slice())
-}
-
-/// Returns the actions for a range of a source.
-pub(crate) fn actions(asked: &Asked<'_>, source: usize, range: Range) -> Result<Value, AllocError>
-    ensures { IfOk result (λ value. IsActionsResult asked.now.encoding asked.now.sources.now asked.now.held.now asked.now.checked.now source range (view value)) }
-{
-    match read_text(asked.held, source) {
-        None => Ok(Value::Array(Vec::new(asked.alloc))),
-        Some(text) => actions_of(asked, source, text, range),
     }
 }

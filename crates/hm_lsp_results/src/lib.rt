@@ -5,6 +5,7 @@ mod asking;
 mod completing;
 mod declared;
 mod faults;
+mod fixing;
 mod folder;
 pub mod laws;
 mod preparing;

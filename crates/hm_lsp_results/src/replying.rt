@@ -10,10 +10,11 @@ ghost use Rattle.hm_lsp_results.specs.Renames.{IsFaultBy, sentence_of};
 ghost use Rattle.hm_lsp_results.specs.Results.{HasPosition, HasRange, IsDocumentResult, IsNotRenamableIn, IsRefusedIn, IsRefusedOf, IsRefusedRename, IsReply, IsRenameRequestResult, IsResult, IsResultAtPosition, IsResultFor, IsResultOf, failure_data, with_declarations};
 ghost use Rattle.hm_lsp_results.specs.Symbols.{AreFound};
 
-use crate::asking::{Asked, actions, definition, hover, source_in};
+use crate::asking::{Asked, definition, hover, source_in};
 use crate::completing::completions;
 use crate::declared::symbols;
 use crate::faults::RequestFault;
+use crate::fixing::actions;
 use crate::folder::found_symbols;
 use crate::preparing::prepare;
 use crate::referring::{highlights, references};
@@ -125,7 +126,7 @@ fn result_of<T: Threads + Wait + Sync>(
     if question == Question::CodeAction {
         return match range_of_request(request) {
             None => Ok(None),
-            Some(range) => Ok(Some(actions(asked, source, range)?)),
+            Some(range) => Ok(Some(actions(rt, asked, source, range)?)),
         };
     }
     if question == Question::DocumentSymbol {

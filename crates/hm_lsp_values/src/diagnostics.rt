@@ -1,7 +1,7 @@
 //! Diagnostics, and the actions that make their edits.
 ghost use Rattle.std.specs.Prelude.{◌≡◌, IfOk, map, option_map, string_bytes};
 ghost use Rattle.serde_json.specs.View.{items_view, view};
-ghost use Rattle.hm_lsp_values.specs.Diagnostics.{action_data, diagnostic_data, edit_data, edits_data, severity_of, text_with};
+ghost use Rattle.hm_lsp_values.specs.Diagnostics.{action_data, action_of, diagnostic_data, edit_data, edits_data, severity_of, text_title, text_with, title_of};
 
 use crate::positions::range_value;
 use hm_lsp_positions::Encoding;
@@ -66,17 +66,52 @@ fn edits_value(alloc: Global, encoding: Encoding, edits: &[Edit]) -> Result<Valu
     Ok(Value::Array(values))
 }
 
-/// Returns the action that makes the edits of a diagnostic in the document with this URI (`CodeAction`).
+/// Returns the title of an action that writes a text.
+fn text_title(alloc: Global, text: &str) -> Result<String, AllocError>
+    ensures { IfOk result (λ title. string_bytes title ≡ text_title text.now) }
+{
+    if text.is_empty() {
+        return String::from_str(alloc, "remove this");
+    }
+    format!(in alloc; "write '{text}'")
+}
+
+/// Returns the title of the action for a message: what its edit writes, if it has one edit.
+fn title_of(alloc: Global, change: &Diagnostic) -> Result<String, AllocError>
+    ensures { IfOk result (λ title. string_bytes title ≡ title_of (string_bytes change.now.text) change.now.edits.items) }
+{
+    let edits = change.edits.as_slice();
+    if edits.len() == 1 {
+        return text_title(alloc, edits[0].text.as_str());
+    }
+    String::from_str(alloc, change.text.as_str())
+}
+
+/// Returns the action that makes edits in the document with this URI.
+fn titled(
+    alloc: Global,
+    uri: &str,
+    title: &str,
+    solved: &Value,
+    edits: &Value,
+) -> Result<Value, AllocError>
+    ensures { IfOk result (λ value. view value ≡ action_of uri.now title.now (view solved.now) (view edits.now)) }
+{
+    json!(in alloc; {"diagnostics": [solved], "edit": {"changes": {(uri): edits}}, "kind": "quickfix", "title": title})
+}
+
+/// Returns the action that makes the edits of a message in the document with this URI (`CodeAction`). The fault is what it solves.
 pub fn action_value(
     alloc: Global,
     encoding: Encoding,
     uri: &str,
-    diagnostic: &Diagnostic,
+    fault: &Diagnostic,
+    change: &Diagnostic,
 ) -> Result<Value, AllocError>
-    ensures { IfOk result (λ value. view value ≡ action_data encoding uri.now diagnostic.now) }
+    ensures { IfOk result (λ value. view value ≡ action_data encoding uri.now fault.now change.now) }
 {
-    let edits = edits_value(alloc, encoding, diagnostic.edits.as_slice())?;
-    let solved = diagnostic_value(alloc, encoding, diagnostic)?;
-    let (title, solved, edits) = (diagnostic.text.as_str(), &solved, &edits);
-    json!(in alloc; {"diagnostics": [solved], "edit": {"changes": {(uri): edits}}, "kind": "quickfix", "title": title})
+    let edits = edits_value(alloc, encoding, change.edits.as_slice())?;
+    let solved = diagnostic_value(alloc, encoding, fault)?;
+    let title = title_of(alloc, change)?;
+    titled(alloc, uri, title.as_str(), &solved, &edits)
 }

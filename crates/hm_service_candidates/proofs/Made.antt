@@ -1,6 +1,6 @@
 -- The text that edits make, or why there is none.
 use Rattle.std.proofs.Common.{◌≡◌, ◌∙◌, ◌-◌, ◌<◌, ◌≤◌, ℕ, List, [], ◌∷◌, ◌++◌, arith, ap, drop, get_or, length, length-append, map, subst, sym, take}
-use Rattle.std.proofs.lemmas.List.{get_or-map, length-drop, length-map, take_all}
+use Rattle.std.proofs.lemmas.List.{get_or-map, length-map}
 use Rattle.hm_lex.specs.Cut.{place_after}
 use Rattle.hm_service_candidates.specs.EditSteps.{IsFront}
 use Rattle.hm_service_candidates.specs.Edited.{HasNoEdited, IsByteAt, IsEditedFrom, IsEditedText, apart, long_made, place_of}
@@ -23,10 +23,6 @@ no_start text edits first some is none = apart (λ made h.
 
 pub too_long : (text : List ℕ) (edits : List Edit) (front : List ℕ) (end : Cursor) → IsFront text (map edit_of edits) front end → 4294967294 ≤ length front → HasNoEdited text edits
 too_long text edits front end is long = long_made (front ++ drop end.at text) is.edited (omega (arith, long, length-append front (drop end.at text)))
-
--- the bytes from one on to the end
-pub rest_is : (text : List ℕ) (at : ℕ) → take (length text - at) (drop at text) ≡ drop at text
-rest_is text at = take_all (length text - at) (drop at text) (omega (arith, length-drop at text))
 
 pub made_text : (text : List ℕ) (edits : List Edit) (first : Edit) (front : List ℕ) (end : Cursor) (e : EditedText) → 0 < length edits → first ≡ get_or edits 0 first → IsFront text (map edit_of edits) front end → e.text.items ≡ front ++ drop end.at text
     → e.start ≡ place_of first.start → e.end ≡ end.place → e.new_end ≡ place_after front → IsEditedText text edits e

@@ -2,4 +2,5 @@ pub mod Edited
 pub mod Cursors
 pub mod EditSteps
 pub mod Candidates
+pub mod Ranges
 pub mod Worked

@@ -12,7 +12,7 @@ use std::alloc::{AllocError, Global};
 pub const MOST_TRIED: usize = 8;
 
 /// Returns whether a message is an error.
-fn is_error(message: &Diagnostic) -> bool
+pub(crate) fn is_error(message: &Diagnostic) -> bool
     ensures yes { IsTrue result → message.now.level ≡ Error }
     ensures no { result ≡ false → message.now.level ≡ Note }
 {
@@ -23,7 +23,7 @@ fn is_error(message: &Diagnostic) -> bool
 }
 
 /// Returns where the notes end that begin at an index.
-fn end_of_notes(told: &[Diagnostic], from: usize) -> usize
+pub(crate) fn end_of_notes(told: &[Diagnostic], from: usize) -> usize
     requires { from ≤ length told.now }
     ensures later { from ≤ result }
     ensures within { result ≤ length told.now }

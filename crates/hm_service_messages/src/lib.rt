@@ -9,7 +9,7 @@ mod reading;
 mod spots;
 mod writing;
 
-pub use crate::choosing::{actions_in, diagnostics_in};
+pub use crate::choosing::{diagnostics_in, overlaps};
 pub use crate::diagnostic::{Diagnostic, Edit, Told};
 pub use crate::reading::{ReadingFault, told_in};
 pub use crate::spots::{Bound, bound_in};

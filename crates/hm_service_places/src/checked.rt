@@ -1,6 +1,7 @@
 //! The result of a check.
 use hm_build_stages::Finished;
 use hm_service_messages::Told;
+use hm_service_sources::HeldSource;
 
 /// The result of a check of a held set. Sources are named by their numbers in the set.
 #[derive(Drop)]
@@ -17,4 +18,12 @@ pub struct Checked {
     pub told: Told,
     /// The build of these sources.
     pub build: Finished,
+}
+
+/// A held set with a check of it, and the number of workers for the check of the set that a change makes.
+#[derive(Clone, Copy)]
+pub struct CheckedSet<'a> {
+    pub held: &'a [HeldSource],
+    pub checked: &'a Checked,
+    pub workers: usize,
 }

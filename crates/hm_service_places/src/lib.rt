@@ -7,8 +7,8 @@ mod names;
 mod places;
 mod sources;
 
-pub use crate::checked::Checked;
+pub use crate::checked::{Checked, CheckedSet};
 pub use crate::faults::ServiceFault;
 pub use crate::names::names_of;
-pub use crate::places::{AtPlace, place_of};
-pub use crate::sources::diagnostics_of;
+pub use crate::places::{AtPlace, index_of, place_of};
+pub use crate::sources::{diagnostics_of, in_run};

@@ -24,8 +24,8 @@ pub struct AtPlace {
     pub bound: Option<Bound>,
 }
 
-/// Returns the index of a number in a list.
-fn index_of(part: &[usize], source: usize) -> Option<usize>
+/// Returns the index of a source in the checked part, which has the numbers of its sources.
+pub fn index_of(part: &[usize], source: usize) -> Option<usize>
     ensures some { IfSome result (λ index. (index < length part.now) × (slice_index_or part.now index 0 ≡ source)) }
     ensures none { IfNone result (¬ (Contains part.now source)) }
 {

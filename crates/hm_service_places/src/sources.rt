@@ -8,7 +8,7 @@ use hm_service_sources::HeldSource;
 use std::alloc::{AllocError, Global};
 
 /// Returns the diagnostics of a run, if there was one.
-fn in_run<'a>(run: &'a Option<Told>) -> &'a [Diagnostic]
+pub fn in_run<'a>(run: &'a Option<Told>) -> &'a [Diagnostic]
     ensures { result.now ≡ in_run run.entry.now }
 {
     match run {

@@ -4,7 +4,7 @@ use Rattle.hm_service_references.specs.Names.{AreReferencesAt}
 use Rattle.hm_service_rename.specs.Made.{HasNoReferencesTo, IsNotMade}
 use Rattle.hm_service_rename.specs.Renames.{IsRefused, place_of}
 use Rattle.hm_service_rename.specs.Sets.{IsWhole}
-use Rattle.hm_service_rename.specs.declared.results.CheckedSet.{CheckedSet}
+use Rattle.hm_service_places.specs.declared.checked.CheckedSet.{CheckedSet}
 use Rattle.hm_service_rename.specs.declared.results.Rename.{Rename}
 use Rattle.hm_service_rename.specs.declared.results.RenameRefusal.{RenameRefusal}
 use Rattle.hm_service_rename.specs.declared.results.RenameRefusal.TheVariants.{NotWhole, NoName, NotBound, NotAName, NotRead, NotSame}

@@ -6,7 +6,7 @@ use Rattle.hm_service_places.specs.declared.checked.Checked.{Checked}
 use Rattle.hm_service_references.specs.Names.{AreNamesIn, AreNamesOf, AreReferencesAt, HasNoNameAt}
 use Rattle.hm_service_rename.specs.Sets.{IsWhole}
 use Rattle.hm_service_rename.specs.declared.preparing.Asked.{Asked}
-use Rattle.hm_service_rename.specs.declared.results.CheckedSet.{CheckedSet}
+use Rattle.hm_service_places.specs.declared.checked.CheckedSet.{CheckedSet}
 use Rattle.hm_service_rename.specs.declared.results.Prepared.{Prepared}
 use Rattle.hm_service_rename.specs.declared.results.Prepared.TheVariants.{Refused, Renamable}
 use Rattle.hm_service_rename.specs.declared.results.RenameRefusal.{RenameRefusal}

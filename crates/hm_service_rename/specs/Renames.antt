@@ -8,7 +8,7 @@ use Rattle.hm_service_references.specs.Names.{AreNamesOf, AreReferencesAt, HasNo
 use Rattle.hm_service_rename.specs.Replaced.{AreReplaced}
 use Rattle.hm_service_rename.specs.Spelling.{IsName}
 use Rattle.hm_service_rename.specs.Sets.{AreHeldAs, IsAsGood, IsWhole}
-use Rattle.hm_service_rename.specs.declared.results.CheckedSet.{CheckedSet}
+use Rattle.hm_service_places.specs.declared.checked.CheckedSet.{CheckedSet}
 use Rattle.hm_service_rename.specs.declared.results.Rename.{Rename}
 use Rattle.hm_service_rename.specs.declared.results.Renamed.{Renamed}
 use Rattle.hm_service_rename.specs.declared.results.Renamed.TheVariants.{Edits, Refused}

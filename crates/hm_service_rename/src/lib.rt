@@ -16,7 +16,6 @@ mod whole;
 
 pub use crate::preparing::prepare_rename;
 pub use crate::renaming::rename_of;
-pub use crate::results::{
-    CheckedSet, Prepared, Rename, RenameRefusal, Renamed, SourcePlace, Target,
-};
+pub use crate::results::{Prepared, Rename, RenameRefusal, Renamed, SourcePlace, Target};
+pub use hm_service_places::CheckedSet;
 pub use hm_uses_references::Reference;

@@ -4,11 +4,11 @@ ghost use Rattle.hm_service_rename.specs.Prepared.{IsFoundAt, IsFoundBy, IsFound
 ghost use Rattle.hm_uses_references.specs.References.{reference_of};
 
 use crate::renaming::is_bound;
-use crate::results::{CheckedSet, Prepared, RenameRefusal, SourcePlace, Target};
+use crate::results::{Prepared, RenameRefusal, SourcePlace, Target};
 use crate::whole::{current_texts, is_whole};
 use core::thread::Stack;
 use hm_run_sources::{Nesting, origins_of};
-use hm_service_places::{Checked, ServiceFault};
+use hm_service_places::{Checked, CheckedSet, ServiceFault};
 use hm_service_references::{View, all_imported, all_names};
 use hm_store::Store;
 use hm_types_prelude::SharedPrelude;

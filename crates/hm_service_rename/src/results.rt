@@ -1,15 +1,5 @@
 //! The parameters of a rename, and its result.
-use hm_service_places::Checked;
-use hm_service_sources::HeldSource;
 use hm_uses_references::Reference;
-
-/// A held set with a check of it, and the number of workers for the check of the set that a rename makes.
-#[derive(Clone, Copy)]
-pub struct CheckedSet<'a> {
-    pub held: &'a [HeldSource],
-    pub checked: &'a Checked,
-    pub workers: usize,
-}
 
 /// A new name for the name at a place of a source. The column counts bytes, from 1.
 #[derive(Clone, Copy)]

@@ -1,11 +1,17 @@
 use Rattle.std.proofs.Common.{rules, ◌≡◌, option_map}
 use Rattle.serde_json.specs.View.{view}
-use Rattle.hm_lsp_session.specs.declared.stages.Question.TheVariants.{Completion, DocumentSymbol, PrepareRename, Rename}
+use Rattle.hm_lsp_session.specs.declared.stages.Question.TheVariants.{CodeAction, Completion, DocumentSymbol, PrepareRename, Rename}
 use Rattle.hm_lsp_results.specs.Asked.{subject_of}
 use Rattle.hm_lsp_results.proofs.CompletionValues.{completion_of}
 use Rattle.hm_lsp_results.proofs.DeclaredValues.{symbols_result}
+use Rattle.hm_lsp_results.proofs.Offered.{actions_result}
 use Rattle.hm_lsp_results.proofs.Refusals.{not_renamable_of, prepared_of, refused_of, renamed_of}
 use Rattle.hm_lsp_results.proofs.replying.result_of.Goals as goal
+
+pub returns-in_ok-actions-in-Some-clause-result : goal.returns-in_ok-actions-in-Some-clause-result
+returns-in_ok-actions-in-Some-clause-result g c =
+    let is : c.args.question ≡ CodeAction = search rules in
+    actions_result (subject_of c.args.asked.now) c.args.question c.args.source (view c.args.request.now) (view c.in_ok-actions-in-Some.field-0) c.in-Some.range is c.in-Some.ensures c.in_ok-actions-in-Some.ensures
 
 pub returns-then-eq-2-clause-result : goal.returns-then-eq-2-clause-result
 returns-then-eq-2-clause-result g c =
