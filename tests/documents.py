@@ -16,13 +16,31 @@ TOP = pathlib.Path(__file__).resolve().parent.parent
 PAGES = [TOP / "README.md", *sorted((TOP / "docs").glob("*.md"))]
 
 
-def copied_figures():
-    """Returns the figures of README's table of speeds that docs/FIGURES.md doesn't have."""
-    speed = (TOP / "README.md").read_text().partition("\n## Speed\n")[2].partition("\n## ")[0]
-    cells = [row.split("|")[-2] for row in re.findall(r"^\|.*\|$", speed, re.M)[2:]]
+NUMBER = re.compile(r"\d[\d,.]*\d|\d")
+
+
+def figures_by_script():
+    """Returns the figures of docs/FIGURES.md by the script whose heading they are under."""
     page = TOP / "docs" / "FIGURES.md"
-    figures = set(re.findall(r"\d[\d,.]*\d|\d", page.read_text() if page.exists() else ""))
-    return [it for cell in cells for it in re.findall(r"\d[\d,.]*\d|\d", cell) if it not in figures], len(cells)
+    parts = re.split(r"^## `(\S+?\.py)[^`]*`$", page.read_text() if page.exists() else "", flags=re.M)
+    found = {}
+    for script, text in zip(parts[1::2], parts[2::2]):
+        found.setdefault(script, set()).update(NUMBER.findall(text))
+    return found
+
+
+def copied_figures():
+    """Returns the figures of README's table of speeds that docs/FIGURES.md doesn't have under the script of their row, and the number of rows.
+
+    A row without a script has that of the row above.
+    """
+    speed = (TOP / "README.md").read_text().partition("\n## Speed\n")[2].partition("\n## ")[0]
+    rows, known, script, lost = re.findall(r"^\|.*\|$", speed, re.M)[2:], figures_by_script(), None, []
+    for row in rows:
+        named = re.search(r"`(\S+\.py)`", row)
+        script = named[1] if named else script
+        lost += [it for it in NUMBER.findall(row.split("|")[-2]) if it not in known.get(script, ())]
+    return lost, len(rows)
 
 
 def shown_examples(page):
