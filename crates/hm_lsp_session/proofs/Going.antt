@@ -7,7 +7,7 @@ use Rattle.serde_json.specs.Find.{get}
 use Rattle.hm_lsp_positions.specs.declared.changes.Change.{Change}
 use Rattle.hm_lsp_positions.specs.declared.units.Encoding.{Encoding}
 use Rattle.hm_lsp_session.specs.Effects.{HasNoChange, IsIgnored, IsIgnoredIn, IsNotApplied, IsNothingOnlyFor, closed, reversed}
-use Rattle.hm_lsp_session.specs.Files.{IfBegun, IfFiles}
+use Rattle.hm_lsp_session.specs.Files.{IfBegun, IfEnded, IfFiles}
 use Rattle.hm_lsp_session.specs.Params.{AreListedIn, string_at}
 use Rattle.hm_lsp_session.specs.Stages.{notification_decision, ready_decision, request_decision}
 use Rattle.hm_lsp_session.specs.declared.documents.Documents.{Documents}
@@ -77,6 +77,73 @@ news_step before after Begun ready same h = (ready, same)
 news_step before after (Files uris) ready same h = (ready, same)
 news_step before after Nothing ready same h = same
 news_step before after (Ended status) ready same h = absurd h
+
+is_end : Decision → Bool
+is_end Go = false
+is_end (Refuse why) = false
+is_end Ignore = false
+is_end (End status) = true
+
+-- a server ends only after `exit`
+pub only_exit : (s : Stage) (m : Method) (status : ℕ) → notification_decision s m ≡ End status → m ≡ Exit
+unfolding is_end
+only_exit s Exit status h = refl
+only_exit New Initialize status h = absurd (false≢true (ap is_end h))
+only_exit New Initialized status h = absurd (false≢true (ap is_end h))
+only_exit New Shutdown status h = absurd (false≢true (ap is_end h))
+only_exit New DidOpen status h = absurd (false≢true (ap is_end h))
+only_exit New DidChange status h = absurd (false≢true (ap is_end h))
+only_exit New DidClose status h = absurd (false≢true (ap is_end h))
+only_exit New DidChangeWatchedFiles status h = absurd (false≢true (ap is_end h))
+only_exit New (Question q) status h = absurd (false≢true (ap is_end h))
+only_exit New Unknown status h = absurd (false≢true (ap is_end h))
+only_exit Ready Initialize status h = absurd (false≢true (ap is_end h))
+only_exit Ready Initialized status h = absurd (false≢true (ap is_end h))
+only_exit Ready Shutdown status h = absurd (false≢true (ap is_end h))
+only_exit Ready DidOpen status h = absurd (false≢true (ap is_end h))
+only_exit Ready DidChange status h = absurd (false≢true (ap is_end h))
+only_exit Ready DidClose status h = absurd (false≢true (ap is_end h))
+only_exit Ready DidChangeWatchedFiles status h = absurd (false≢true (ap is_end h))
+only_exit Ready (Question q) status h = absurd (false≢true (ap is_end h))
+only_exit Ready Unknown status h = absurd (false≢true (ap is_end h))
+only_exit ShutDown Initialize status h = absurd (false≢true (ap is_end h))
+only_exit ShutDown Initialized status h = absurd (false≢true (ap is_end h))
+only_exit ShutDown Shutdown status h = absurd (false≢true (ap is_end h))
+only_exit ShutDown DidOpen status h = absurd (false≢true (ap is_end h))
+only_exit ShutDown DidChange status h = absurd (false≢true (ap is_end h))
+only_exit ShutDown DidClose status h = absurd (false≢true (ap is_end h))
+only_exit ShutDown DidChangeWatchedFiles status h = absurd (false≢true (ap is_end h))
+only_exit ShutDown (Question q) status h = absurd (false≢true (ap is_end h))
+only_exit ShutDown Unknown status h = absurd (false≢true (ap is_end h))
+
+exit_ends : (s : Stage) → is_end (notification_decision s Exit) ≡ true
+unfolding is_end
+exit_ends New = refl
+exit_ends Ready = refl
+exit_ends ShutDown = refl
+
+-- `exit` is neither acted on nor ignored
+pub exit_goes : (s : Stage) (m : Method) → notification_decision s m ≡ Go → m ≡ Exit → ⊥
+unfolding is_end
+exit_goes s m is exit = false≢true (sym (ap is_end (subst (λ x. notification_decision s x ≡ Go) exit is)) ∙ exit_ends s)
+
+pub exit_counts : (s : Stage) (m : Method) → notification_decision s m ≡ Ignore → m ≡ Exit → ⊥
+unfolding is_end
+exit_counts s m is exit = false≢true (sym (ap is_end (subst (λ x. notification_decision s x ≡ Ignore) exit is)) ∙ exit_ends s)
+
+pub exit_stands : (s : Stage) (m : Method) (why : Refusal) → notification_decision s m ≡ Refuse why → m ≡ Exit → ⊥
+unfolding is_end
+exit_stands s m why is exit = false≢true (sym (ap is_end (subst (λ x. notification_decision s x ≡ Refuse why) exit is)) ∙ exit_ends s)
+
+-- news don't end the server
+pub no_end : (outcome : Outcome) (why : Type 0) → IsNews outcome → IfEnded outcome why
+no_end (Reply reply) why h = tt
+no_end (Ask question request) why h = tt
+no_end Changed why h = tt
+no_end Begun why h = tt
+no_end (Files uris) why h = tt
+no_end Nothing why h = tt
+no_end (Ended status) why h = absurd h
 
 -- an edit is neither of the other news
 pub edit_news : (outcome : Outcome) → IsEdit outcome → IsNews outcome

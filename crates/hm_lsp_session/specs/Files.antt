@@ -1,5 +1,7 @@
--- What else a notification says: that the client is ready, or which files may have changed on the disk (Language Server Protocol 3.17, "Initialized Notification", "DidChangeWatchedFiles Notification").
+-- What else a notification says: that the client is ready, which files may have changed on the disk, or that the server ends (Language Server Protocol 3.17, "Initialized Notification", "DidChangeWatchedFiles Notification",
+-- "Exit Notification").
 use Rattle.std.specs.Prelude.{◌≡◌, ⊤, ℕ, Bool, List, None, Some, codes, map, string_bytes}
+use Rattle.std.specs.Str.{IsUtf8}
 use Rattle.serde_json.specs.Data.{Data}
 use Rattle.serde_json.specs.Find.{get}
 use Rattle.serde_json.specs.Read.{read}
@@ -10,7 +12,7 @@ use Rattle.hm_lsp_session.specs.declared.session.Outcome.{Outcome}
 use Rattle.hm_lsp_session.specs.declared.session.Outcome.TheVariants.{Ask, Begun, Changed, Ended, Files, Nothing, Reply}
 use Rattle.hm_lsp_session.specs.declared.session.Session.{Session}
 use Rattle.hm_lsp_session.specs.declared.stages.Method.{Method}
-use Rattle.hm_lsp_session.specs.declared.stages.Method.TheVariants.{DidChangeWatchedFiles, Initialized}
+use Rattle.hm_lsp_session.specs.declared.stages.Method.TheVariants.{DidChangeWatchedFiles, Exit, Initialized}
 
 -- whether the client offers to watch files
 abbrev pub watches_files : Session → Bool
@@ -36,6 +38,26 @@ IfFiles Changed P = ⊤
 IfFiles Nothing P = ⊤
 IfFiles (Ended status) P = ⊤
 
+-- the server ends only if this is so
+abbrev pub IfEnded : Outcome → Type 0 → Type 0
+IfEnded (Ended status) why = why
+IfEnded (Reply reply) why = ⊤
+IfEnded (Ask question asked) why = ⊤
+IfEnded Changed why = ⊤
+IfEnded Begun why = ⊤
+IfEnded (Files uris) why = ⊤
+IfEnded Nothing why = ⊤
+
+-- the server ends
+abbrev pub IsEnded : Outcome → Type 0
+IsEnded (Ended status) = ⊤
+IsEnded (Reply reply) = ⊥
+IsEnded (Ask question asked) = ⊥
+IsEnded Changed = ⊥
+IsEnded Begun = ⊥
+IsEnded (Files uris) = ⊥
+IsEnded Nothing = ⊥
+
 -- a notification of this method with these parameters names the files
 abbrev pub AreFilesOf : Method → Data → List (List ℕ) → Type 0
 AreFilesOf method params uris = (method ≡ DidChangeWatchedFiles) × (changed_files params ≡ Some uris)
@@ -59,3 +81,11 @@ AreFilesSaid message uris = IsNotice message (λ method. AreFilesIn method messa
 -- the body of a frame is a message of which this is so
 abbrev pub IsBody : List ℕ → (Data → Type 0) → Type 0
 IsBody body P = (message : Data) × ((read body ≡ Some message) × P message)
+
+-- `exit`
+abbrev pub IsExit : Data → Type 0
+IsExit message = IsNotice message (λ method. method ≡ Exit)
+
+-- the server ends if the body of the frame is `exit`
+abbrev pub EndsAfter : List ℕ → Outcome → Type 0
+EndsAfter body outcome = (message : Data) → IsUtf8 body → read body ≡ Some message → IsExit message → IsEnded outcome

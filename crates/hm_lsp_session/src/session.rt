@@ -5,7 +5,7 @@ ghost use Rattle.serde_json.specs.Find.{get};
 ghost use Rattle.serde_json.specs.View.{view};
 ghost use Rattle.hm_lsp_session.specs.Documents.{listed, SameTexts};
 ghost use Rattle.hm_lsp_session.specs.Effects.{documents_of, encoding_of, HasBodyEffect, HasEffect, HasMessageEffect, HasNoChange, HasNoDocument, HasNoText, HasParamsEffect, IsAppliedTo, IsChanged, IsBodyHeard, IsClosed, IsHeard, IsIgnored, IsIgnoredIn, IsNotApplied, IsNothingOnlyFor, IsOpened, TextsAre};
-ghost use Rattle.hm_lsp_session.specs.Files.{AreFilesIn, AreFilesOf, AreFilesSaid, IfBegun, IfFiles, IsBegin, IsBody, watches_files};
+ghost use Rattle.hm_lsp_session.specs.Files.{AreFilesIn, AreFilesOf, AreFilesSaid, EndsAfter, IfBegun, IfEnded, IfFiles, IsBegin, IsBody, IsEnded, IsExit, watches_files};
 ghost use Rattle.hm_lsp_session.specs.Params.{changed_files};
 ghost use Rattle.hm_lsp_session.specs.Stages.{request_decision};
 ghost use Rattle.hm_lsp_session.specs.Steps.{stage_of, IsEdit, IsNews, IsStep};
@@ -367,12 +367,15 @@ impl Session {
     }
 
     /// Takes a notification.
+    #[tactic(auto, using(crate::proofs::Going::no_end, crate::proofs::Going::only_exit, crate::proofs::Going::exit_goes, crate::proofs::Going::exit_counts, crate::proofs::Going::exit_stands))]
     fn notified(&mut self, method: Method, message: &Value) -> Result<Outcome, AllocError>
         ensures silent { IfOk result (λ out. TakesNotification out) }
         ensures step { IfOk result (λ out. IsStep self.old.stage out self.new.stage) }
         ensures texts { IfOk result (λ out. TextsAre out (HasParamsEffect method (view message.now) self.old.encoding self.old.documents self.new.documents) self.old.documents self.new.documents) }
         ensures begun { IfOk result (λ out. IfBegun out (method ≡ Method.Initialized)) }
         ensures files { IfOk result (λ out. IfFiles out (AreFilesIn method (view message.now))) }
+        ensures ended { IfOk result (λ out. IfEnded out (method ≡ Method.Exit)) }
+        ensures ends { IfOk result (λ out. method ≡ Method.Exit → IsEnded out) }
         ensures ignored { IfOk result (λ out. self.old.stage ≡ Stage.Ready → IsNothingOnlyFor (IsIgnoredIn method (view message.now) self.old.encoding self.old.documents) out) }
         ensures err { OnErr result (SameTexts self.old.documents self.new.documents) }
     {
@@ -428,6 +431,8 @@ impl Session {
         ensures texts { IfOk result (λ out. TextsAre out (HasMessageEffect (view message) self.old.encoding self.old.documents self.new.documents) self.old.documents self.new.documents) }
         ensures begun { IfOk result (λ out. IfBegun out (IsBegin (view message))) }
         ensures files { IfOk result (λ out. IfFiles out (AreFilesSaid (view message))) }
+        ensures ended { IfOk result (λ out. IfEnded out (IsExit (view message))) }
+        ensures ends { IfOk result (λ out. IsExit (view message) → IsEnded out) }
         ensures heard { IfOk result (λ out. IsHeard self.old.stage (view message) self.old.encoding self.old.documents out) }
         ensures err { OnErr result (SameTexts self.old.documents self.new.documents) }
         ensures left { IfOk result (λ out. IsLeft self.old.stage (view message) out) }
@@ -455,6 +460,8 @@ impl Session {
         ensures texts { IfOk result (λ out. TextsAre out (HasBodyEffect body.now (encoding_of self.old) (documents_of self.old) (documents_of self.new)) (documents_of self.old) (documents_of self.new)) }
         ensures begun { IfOk result (λ out. IfBegun out (IsBody body.now IsBegin)) }
         ensures files { IfOk result (λ out. IfFiles out (λ uris. IsBody body.now (λ message. AreFilesSaid message uris))) }
+        ensures ended { IfOk result (λ out. IfEnded out (IsBody body.now IsExit)) }
+        ensures ends { IfOk result (λ out. EndsAfter body.now out) }
         ensures heard { IfOk result (λ out. IsBodyHeard body.now (stage_of self.old) (encoding_of self.old) (documents_of self.old) out) }
         ensures err { OnErr result (SameTexts (documents_of self.old) (documents_of self.new)) }
     {
