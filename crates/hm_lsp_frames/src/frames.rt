@@ -147,8 +147,12 @@ impl Frames {
     }
 }
 
-/// Takes each frame that is whole, and adds it to a list.
-fn take_all(frames: &mut Frames, taken: &mut Vec<Frame>) -> Result<(), AllocError>
+/// Takes each frame that is whole, and adds it to a list, in order.
+///
+/// # Errors
+///
+/// If memory runs out. The frame that comes next may be lost then.
+pub fn take_all(frames: &mut Frames, taken: &mut Vec<Frame>) -> Result<(), AllocError>
     ensures { OnOk result ((stream : List ℕ) → IsPending frames.old stream → TakesAll frames.new stream taken.old.items taken.new.items) }
 {
     while let Some(frame) = frames.next()? {

@@ -1,5 +1,5 @@
--- Worked examples: replies to a notification and to a request, what else follows from a message, what is sent of a source, and what is shown of a second check.
-use Rattle.std.specs.Prelude.{◌≡◌, ℕ, List, [], ◌∷◌, None, Some, codes}
+-- Worked examples: replies to a notification and to a request, what else follows from a message and from an outcome, what is sent of a source, and what is shown of a second check.
+use Rattle.std.specs.Prelude.{◌≡◌, ℕ, List, [], ◌∷◌, None, Some, codes, false, true}
 use Rattle.serde_json.specs.Data.{Data, null}
 use Rattle.hm_lsp_positions.specs.declared.units.Encoding.TheVariants.{Utf16}
 use Rattle.hm_service_messages.specs.declared.diagnostic.Diagnostic.{Diagnostic}
@@ -11,8 +11,10 @@ use Rattle.hm_lsp_server.specs.declared.second.SecondCheck.{SecondCheck}
 use Rattle.hm_lsp_server.specs.Published.{AreCleared, AreSent, diagnostics_notice}
 use Rattle.hm_lsp_server.specs.Replied.{AreRepliesTo}
 use Rattle.hm_lsp_server.specs.Taken.{IsRegistration, replies_in}
-use Rattle.hm_lsp_server.specs.declared.taken.Taken.TheVariants.{Ended}
+use Rattle.hm_lsp_server.specs.declared.taken.Taken.TheVariants.{Ended, Nothing as TakenNothing}
+use Rattle.hm_lsp_session.specs.declared.session.Outcome.TheVariants.{Begun, Changed}
 use Rattle.hm_lsp_session.specs.declared.session.Session.{Session}
+use Rattle.hm_lsp_server.specs.Steps.{FollowsFrom}
 
 -- a notification has no reply, and a request has one
 pub record RepliesRow : Type 0 where
@@ -38,3 +40,9 @@ pub record SecondRow : Type 0 where
 pub record TakenRow : Type 0 where
   pub ended : replies_in (Ended 0) ≡ []
   pub not_other : (s : Session) (body : List ℕ) → ¬ (IsRegistration s body null)
+
+-- after `initialized` a client that offers to watch files is sent a request, and another one nothing. A change doesn't end the server
+pub record OutcomesRow : Type 0 where
+  pub silent : FollowsFrom false Begun TakenNothing
+  pub not_silent : ¬ (FollowsFrom true Begun TakenNothing)
+  pub not_ended : ¬ (FollowsFrom true Changed (Ended 0))

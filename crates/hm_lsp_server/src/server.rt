@@ -1,12 +1,13 @@
 //! The server: the session of a client, and the sources that are held for it.
 
-ghost use Rattle.std.specs.Prelude.{◌≡◌, ◌++◌, [], IfOk, List, None, OnErr, OnOk, Some, codes, map, option_map, true};
+ghost use Rattle.std.specs.Prelude.{◌≡◌, ◌++◌, [], IfOk, IsTrue, List, None, OnErr, OnOk, Some, codes, false, map, option_map, true};
 ghost use Rattle.percent_encoding.specs.Percent.{percent_decode};
 ghost use Rattle.serde_json.specs.Data.{Data};
 ghost use Rattle.serde_json.specs.Find.{get};
 ghost use Rattle.serde_json.specs.View.{view};
 ghost use Rattle.hm_lsp_results.specs.Asked.{subject_of};
 ghost use Rattle.hm_lsp_session.specs.Replies.{IsReplyTo};
+ghost use Rattle.hm_lsp_session.specs.Steps.{stage_of};
 ghost use Rattle.hm_lsp_session.specs.declared.documents.Document.{Document};
 ghost use Rattle.hm_lsp_sources.specs.Files.{IsFileRead};
 ghost use Rattle.hm_lsp_sources.specs.Following.{AreFollowing, AreKept};
@@ -18,6 +19,7 @@ ghost use Rattle.hm_lsp_server.specs.Second.{AreGoodSince, IsSecondCheck, findin
 ghost use Rattle.hm_lsp_server.specs.Replied.{IsReplyOf};
 ghost use Rattle.hm_lsp_server.specs.Served.{IsServed, IsServedBy, subject_in};
 ghost use Rattle.hm_lsp_server.specs.Taken.{IsTakenFrom, replies_in};
+ghost use Rattle.hm_lsp_server.specs.Steps.{IsSteppedBy};
 ghost use Rattle.hm_lsp_server.specs.Servers.{HasFiles, IsCurrent, IsFileNoted, IsFollowing, IsNoted, IsOrderly, checked_of, documents_in, good_of, held_of, is_changed, session_of, sources_of};
 
 use crate::second::{SecondCheck, WORKERS, check_again, said_by};
@@ -86,6 +88,7 @@ impl Server {
         ensures files { IfOk result (λ s. HasFiles files.items (sources_of s)) }
         ensures following { IfOk result (IsFollowing []) }
         ensures documents { IfOk result (λ s. documents_in s ≡ []) }
+        ensures stage { IfOk result (λ s. stage_of (session_of s) ≡ Stage.New) }
         ensures good { IfOk result (λ s. good_of s ≡ []) }
         ensures changed { IfOk result (λ s. is_changed s ≡ true) }
     {
@@ -100,6 +103,14 @@ impl Server {
             has_failed: false,
             is_changed: true,
         })
+    }
+
+    /// Returns whether the client hasn't initialized the server.
+    pub fn is_new(&self) -> bool
+        ensures yes { IsTrue result → stage_of (session_of self.now) ≡ Stage.New }
+        ensures no { result ≡ false → ¬ (stage_of (session_of self.now) ≡ Stage.New) }
+    {
+        self.session.stage() == Stage::New
     }
 
     /// Forgets the check, because a text or a URI is another.
@@ -224,6 +235,7 @@ impl Server {
         ensures orderly { OnOk result (IsOrderly self.new) }
         ensures reply { IfOk result (λ t. IsReplyOf body.now (replies_in t)) }
         ensures served { IfOk result (λ t. IsServed self.old self.new body.now (replies_in t)) }
+        ensures step { IfOk result (IsSteppedBy body.now (session_of self.old) (session_of self.new)) }
         ensures taken { IfOk result (IsTakenFrom (session_of self.new) body.now) }
         ensures kept { OnOk result (AreKept (sources_of self.old) (sources_of self.new)) }
         ensures good { good_of self.new ≡ good_of self.old }
