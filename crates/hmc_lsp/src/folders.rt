@@ -1,7 +1,8 @@
 //! The folders whose files are sources.
 
-use crate::disk::{Folder, folder_at, folder_with, sources_of};
+use crate::disk::{Folder, folder_at, folder_with, read_source, sources_of};
 use hm_lsp_server::SourceFile;
+use hm_lsp_serving::{Disk, OnDisk};
 use hm_lsp_session::Opened;
 use hm_lsp_sources::name_of;
 use std::alloc::{AllocError, Global};
@@ -72,7 +73,7 @@ impl Folders {
     // Why: docs/DECISIONS.md, "Folders of the client".
     /// Takes the folders that the client opens. If it opens none, they stay as they are. If it lists sources, the first folder has these, and there is
     /// no other one.
-    pub(crate) fn open(&mut self, rt: &HostRuntime, opened: &Opened) -> Result<(), AllocError> {
+    fn open(&mut self, rt: &HostRuntime, opened: &Opened) -> Result<(), AllocError> {
         self.are_open = false;
         if !opened.folders.is_empty() {
             self.folders = folders_at(rt, &opened.folders)?;
@@ -91,11 +92,7 @@ impl Folders {
     }
 
     /// Returns the path of the file with this URI, or `None` if it is no source of the folders.
-    pub(crate) fn source_path(
-        &self,
-        alloc: Global,
-        uri: &str,
-    ) -> Result<Option<String>, AllocError> {
+    fn source_path(&self, alloc: Global, uri: &str) -> Result<Option<String>, AllocError> {
         let name = name_of(alloc, uri)?;
         let Ok(name) = str::from_utf8(name.as_slice()) else {
             return Ok(None);
@@ -109,5 +106,32 @@ impl Folders {
             }
         }
         Ok(None)
+    }
+}
+
+/// The disk of the host, with these folders.
+#[derive(Drop)]
+pub(crate) struct HostDisk<'a> {
+    pub(crate) host: &'a HostRuntime,
+    pub(crate) folders: Folders,
+}
+
+impl<'a> Disk for HostDisk<'a> {
+    fn open(&mut self, opened: &Opened) -> Result<Option<Vec<SourceFile>>, AllocError> {
+        if !self.folders.are_open() {
+            return Ok(None);
+        }
+        self.folders.open(self.host, opened)?;
+        Ok(Some(self.folders.sources(self.host)?))
+    }
+
+    fn read(&mut self, uri: &str) -> Result<OnDisk, AllocError> {
+        let Some(path) = self.folders.source_path(self.host.alloc(), uri)? else {
+            return Ok(OnDisk::NoSource);
+        };
+        Ok(match read_source(self.host, path.as_str()) {
+            Some(text) => OnDisk::Text(text),
+            None => OnDisk::Missing,
+        })
     }
 }

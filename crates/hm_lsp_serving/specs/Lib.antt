@@ -1,0 +1,4 @@
+pub mod Steps
+pub mod Taking
+pub mod Turns
+pub mod Worked
