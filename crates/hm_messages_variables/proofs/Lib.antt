@@ -1,0 +1,2 @@
+mod Scoped
+mod WorkedLikes

@@ -1,0 +1,3 @@
+pub mod InScope
+pub mod LikeTypes
+pub mod Worked
