@@ -45,7 +45,7 @@ UNCHECKED = {
     "token left out": "unexpected '",
     "signature": "' without this signature",
 }
-SILENT = ("with another expression here", "with other expressions both here", "if this pattern ", "with one more argument after this", "one more after this", "have types without this signature", "this has type '")
+SILENT = ("with another expression here", "with other expressions both here", "if this pattern ", "with one more argument after this", "one more after this", "have types without this signature", "this has type '", "' is a type variable; a type '")
 
 
 def edited(source, edits):

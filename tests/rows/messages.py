@@ -1214,6 +1214,112 @@ KINDS = [
         "                                                              ^^^\n"
         "errors: 1, skipped modules: 0\n",
     ),
+    # a type in small letters is a type variable. Each that is named like a type has a note at its first place
+    (
+        'module M where { shout :: string -> string -> int -> other ; shout x y n = concat [x, y, "!"] }',
+        1,
+        "M.hs:1:62: error: type error in 'shout' [type]\n"
+        "No types fit this definition and those that refer back to it. All others that it refers to have types or signatures.\n"
+        'module M where { shout :: string -> string -> int -> other ; shout x y n = concat [x, y, "!"] }\n'
+        "                                                             ^^^^^\n"
+        "M.hs:1:76: note: this has type '[Char]', but 'b' is expected (up to 1:93)\n"
+        'module M where { shout :: string -> string -> int -> other ; shout x y n = concat [x, y, "!"] }\n'
+        "                                                                           ^^^^^^\n"
+        "M.hs:1:18: note: 'shout' has type '[Char] -> [Char] -> a -> [Char]' without this signature (up to 1:58)\n"
+        'module M where { shout :: string -> string -> int -> other ; shout x y n = concat [x, y, "!"] }\n'
+        "                 ^^^^^\n"
+        "M.hs:1:27: note: 'string' is a type variable; a type 'String' is in scope\n"
+        'module M where { shout :: string -> string -> int -> other ; shout x y n = concat [x, y, "!"] }\n'
+        "                          ^^^^^^\n"
+        "M.hs:1:47: note: 'int' is a type variable; a type 'Int' is in scope\n"
+        'module M where { shout :: string -> string -> int -> other ; shout x y n = concat [x, y, "!"] }\n'
+        "                                              ^^^\n"
+        "errors: 1, skipped modules: 0\n",
+    ),
+    # a synonym and a type of the module are in scope
+    (
+        "module M where { type Age = Int ; data Color = Red ; f :: age -> [color] ; f x = [Red] }",
+        1,
+        "M.hs:1:76: error: type error in 'f' [type]\n"
+        "No types fit this definition and those that refer back to it. All others that it refers to have types or signatures.\n"
+        "module M where { type Age = Int ; data Color = Red ; f :: age -> [color] ; f x = [Red] }\n"
+        "                                                                           ^\n"
+        "M.hs:1:83: note: this has type 'Color', but 'color' is expected (up to 1:85)\n"
+        "...dule M where { type Age = Int ; data Color = Red ; f :: age -> [color] ; f x = [Red] }\n"
+        "                                                                                   ^^^\n"
+        "M.hs:1:54: note: 'f' has type 'a -> [Color]' without this signature (up to 1:72)\n"
+        "module M where { type Age = Int ; data Color = Red ; f :: age -> [color] ; f x = [Red] }\n"
+        "                                                     ^\n"
+        "M.hs:1:59: note: 'age' is a type variable; a type 'Age' is in scope\n"
+        "module M where { type Age = Int ; data Color = Red ; f :: age -> [color] ; f x = [Red] }\n"
+        "                                                          ^^^\n"
+        "M.hs:1:67: note: 'color' is a type variable; a type 'Color' is in scope\n"
+        "module M where { type Age = Int ; data Color = Red ; f :: age -> [color] ; f x = [Red] }\n"
+        "                                                                  ^^^^^\n"
+        "errors: 1, skipped modules: 0\n",
+    ),
+    # a type that is in scope with a qualifier alone has another name
+    (
+        "module A where { data Tree = Leaf }\n"
+        "module M where { import qualified A ; f :: tree -> tree ; f x = A.Leaf }",
+        1,
+        "M.hs:2:59: error: type error in 'f' [type]\n"
+        "No types fit this definition and those that refer back to it. All others that it refers to have types or signatures.\n"
+        "module M where { import qualified A ; f :: tree -> tree ; f x = A.Leaf }\n"
+        "                                                          ^\n"
+        "M.hs:2:65: note: this has type 'A.Tree', but 'tree' is expected (up to 2:70)\n"
+        "module M where { import qualified A ; f :: tree -> tree ; f x = A.Leaf }\n"
+        "                                                                ^^^^^^\n"
+        "M.hs:2:39: note: 'f' has type 'a -> A.Tree' without this signature (up to 2:55)\n"
+        "module M where { import qualified A ; f :: tree -> tree ; f x = A.Leaf }\n"
+        "                                      ^\n"
+        "errors: 1, skipped modules: 0\n",
+    ),
+    # Int isn't imported, so it isn't in scope
+    (
+        "module M where { import Prelude (Bool(True)) ; f :: int -> bool ; f x = True }",
+        1,
+        "M.hs:1:67: error: type error in 'f' [type]\n"
+        "No types fit this definition and those that refer back to it. All others that it refers to have types or signatures.\n"
+        "module M where { import Prelude (Bool(True)) ; f :: int -> bool ; f x = True }\n"
+        "                                                                  ^\n"
+        "M.hs:1:73: note: this has type 'Bool', but 'bool' is expected (up to 1:76)\n"
+        "module M where { import Prelude (Bool(True)) ; f :: int -> bool ; f x = True }\n"
+        "                                                                        ^^^^\n"
+        "M.hs:1:48: note: 'f' has type 'a -> Bool' without this signature (up to 1:63)\n"
+        "module M where { import Prelude (Bool(True)) ; f :: int -> bool ; f x = True }\n"
+        "                                               ^\n"
+        "M.hs:1:60: note: 'bool' is a type variable; a type 'Bool' is in scope\n"
+        "module M where { import Prelude (Bool(True)) ; f :: int -> bool ; f x = True }\n"
+        "                                                           ^^^^\n"
+        "errors: 1, skipped modules: 0\n",
+    ),
+    # without the signature there is no type either, so nothing is said of its variables
+    (
+        "module M where { f :: int -> bool ; f x = not (not 'c' 'd') 'e' }",
+        1,
+        "M.hs:1:37: error: type error in 'f' [type]\n"
+        "No types fit this definition and those that refer back to it. All others that it refers to have types or signatures.\n"
+        "module M where { f :: int -> bool ; f x = not (not 'c' 'd') 'e' }\n"
+        "                                    ^\n"
+        "M.hs:1:43: note: 'f' has a type with another expression here (up to 1:63)\n"
+        "module M where { f :: int -> bool ; f x = not (not 'c' 'd') 'e' }\n"
+        "                                          ^^^\n"
+        "errors: 1, skipped modules: 0\n",
+    ),
+    # the signature is that of a local definition
+    (
+        "module M where { f x = g x where { g :: int -> bool ; g y = True } }",
+        1,
+        "M.hs:1:18: error: type error in 'f' [type]\n"
+        "No types fit this definition and those that refer back to it. All others that it refers to have types or signatures.\n"
+        "module M where { f x = g x where { g :: int -> bool ; g y = True } }\n"
+        "                 ^\n"
+        "M.hs:1:61: note: 'f' has a type with another expression here (up to 1:64)\n"
+        "module M where { f x = g x where { g :: int -> bool ; g y = True } }\n"
+        "                                                            ^^^^\n"
+        "errors: 1, skipped modules: 0\n",
+    ),
     # columns are counted in characters
     (
         "module A where { g x = 'é' : x ; f :: Bool -> [Char] ; f True = g 'ö' ; f False = 'ü' }",

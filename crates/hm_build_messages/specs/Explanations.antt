@@ -41,6 +41,7 @@ use Rattle.hm_run_sources.specs.Names.{name_below}
 use Rattle.hm_run_sources.specs.Origins.{IsSpelledBy}
 use Rattle.hm_build_messages.specs.Jointly.{AreJointNotes}
 use Rattle.hm_build_messages.specs.PartMessages.{IsPartMessage}
+use Rattle.hm_build_messages.specs.Variables.{AreVariableNotes}
 use Rattle.hm_build_messages.specs.declared.explaining.Blame.{Blame}
 use Rattle.hm_build_messages.specs.declared.explaining.NumberedName.{NumberedName}
 
@@ -166,17 +167,20 @@ pub record IsCauseNote (format : MessageFormat) (file source name : List ℕ) (f
   pub columns_at : AreColumnsAt source signature.end columns
   pub stated : IsPartMessage format file source signature None (follows f.name other (reader_place signature.end columns)) [] text
 
--- the notes of a type fault by itself: that of its part, that of its signature and those of two parts, or some of them, or none. That of the signature is before that of
--- the part if it leads. Those of two parts are last, and only if there is none of one part
+-- the notes of a type fault by itself: that of its part, that of its signature and those of two parts and of type variables, or some of them, or none. That of the signature is before that of
+-- the part if it leads. Those of two parts are next, and only if there is none of one part. Those of type variables that are named like types are last, and
+-- only if there is one of the signature: without that the definition has a type
 pub record AreOwnNotes (format : MessageFormat) (file source name : List ℕ) (fs : List Interface) (f : Fault) (text : List ℕ) : Type 0 where
   pub note : List ℕ
   pub signed : List ℕ
   pub both : List ℕ
+  pub variables : List ℕ
   pub leads : Bool
   pub noted : (note ≡ []) ⊎ IsNote format file source name fs f note
   pub signature : (signed ≡ []) ⊎ IsSignatureNote format file source name fs f leads signed
   pub jointly : (both ≡ []) ⊎ ((note ≡ []) × AreJointNotes format file source name fs f both)
-  pub whole : text ≡ cond leads (signed ++ note) (note ++ signed) ++ both
+  pub alike : (variables ≡ []) ⊎ ((¬ (signed ≡ [])) × AreVariableNotes format file source name fs f.name variables)
+  pub whole : text ≡ (cond leads (signed ++ note) (note ++ signed) ++ both) ++ variables
 
 -- the notes of a type fault: that of another definition's signature from which it follows, or else its own
 pub data AreNotes (format : MessageFormat) (file source name : List ℕ) (fs : List Interface) (f : Fault) (text : List ℕ) : Type 0 where

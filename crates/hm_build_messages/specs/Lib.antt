@@ -3,6 +3,7 @@ pub mod Explanations
 pub mod FurtherStated
 pub mod Jointly
 pub mod PartMessages
+pub mod Variables
 pub mod WorkedLimits
 pub mod WorkedOrder
 pub mod WorkedParts

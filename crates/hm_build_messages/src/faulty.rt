@@ -13,12 +13,14 @@ ghost use Rattle.hm_messages_trials.specs.Mends.{IsMend};
 ghost use Rattle.hm_messages_trials.specs.Signatures.{IsUnsigned, Leads};
 ghost use Rattle.hm_names.specs.declared.faults.Kind.TheVariants.{Untyped};
 ghost use Rattle.hm_build_messages.specs.Jointly.{AreJointNotes};
+ghost use Rattle.hm_build_messages.specs.Variables.{AreVariableNotes};
 ghost use Rattle.hm_build_messages.specs.Explanations.{AreInTurn, ArePartTypes, AreNotes, AreOwnNotes, IsMendStated, IsNote, IsNoted, IsSignatureNote, IsStatedOf};
 
 use crate::causes::cause_note;
 use crate::joint::joint_notes;
 use crate::parts::{NotedPart, part_message};
 use crate::topics::{counts_of, other_of, topic_of};
+use crate::variables::variable_notes;
 use crate::view::FaultyModule;
 use hm_lex::Place;
 use hm_messages::{BothTypes, Topic, fault_message, message, reader_place};
@@ -415,6 +417,23 @@ fn kept(alloc: Global, note: Vec<u8>, others: &[u8]) -> Vec<u8>
     Vec::new(alloc)
 }
 
+/// Returns the notes of type variables that are named like types, if this note of the signature isn't empty.
+fn notes_of_variables(
+    alloc: Global,
+    module: &FaultyModule<'_, '_>,
+    found: &TypeFault<'_>,
+    signed: &[u8],
+) -> Result<Vec<u8>, AllocError>
+    requires { «module».now.question.now.source.now ≡ «module».now.page.now.lines }
+    ensures { IfOk result (λ text. (text.items ≡ []) ⊎ ((¬ (signed.now ≡ [])) × AreVariableNotes «module».now.format «module».now.page.now.file.now
+        «module».now.page.now.lines «module».now.question.now.name.now (map arc_value «module».now.question.now.imports.now) found.now.fault.now.name text.items)) }
+{
+    if signed.is_empty() {
+        return Ok(Vec::new(alloc));
+    }
+    Ok(variable_notes(alloc, module, found.fault.name.as_str())?)
+}
+
 // Why: docs/DECISIONS.md, "The order of notes", "Two slips".
 /// Returns the notes of a fault by itself, one after the other.
 fn own_notes(
@@ -432,8 +451,10 @@ fn own_notes(
     let further = further_beside(&note, &signed);
     let both = notes_of_two(alloc, module, found, further, effort)?;
     let note = kept(alloc, note.text, both.as_slice());
+    let variables = notes_of_variables(alloc, module, found, signed.text.as_slice())?;
     let mut text = in_order(alloc, note.as_slice(), signed.text.as_slice(), signed.leads)?;
     text.extend_from_slice(both.as_slice())?;
+    text.extend_from_slice(variables.as_slice())?;
     Ok(text)
 }
 

@@ -14,6 +14,7 @@ mod parts;
 mod refused;
 mod starts;
 mod topics;
+mod variables;
 mod view;
 
 pub use crate::exhausted::module_message;

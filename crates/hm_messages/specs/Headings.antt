@@ -12,7 +12,7 @@ use Rattle.hm_lex.specs.declared.token.Place.{Place}
 use Rattle.hm_messages_titles.specs.Titles.{fault_title, hidden_title}
 use Rattle.hm_messages.specs.Notices.{notice_of}
 use Rattle.hm_messages.specs.Cuts.{shortened}
-use Rattle.hm_messages.specs.Subjects.{Subject, fault, replaceable, wrapped, too_many_arguments, too_few_arguments, mistyped, unsigned, follows, faulty, skipped, too_long, lexeme, open_comment, too_deep, syntax_fault, too_many, twice, twin, missing, cycle, exhausted, limit, step, hidden}
+use Rattle.hm_messages.specs.Subjects.{Subject, fault, replaceable, wrapped, too_many_arguments, too_few_arguments, mistyped, unsigned, follows, faulty, skipped, too_long, lexeme, open_comment, too_deep, syntax_fault, too_many, twice, twin, missing, cycle, exhausted, limit, step, hidden, type_variable}
 use Rattle.hm_messages.specs.declared.topic.Way.{Way}
 use Rattle.hm_messages.specs.declared.topic.Pair.{Pair}
 use Rattle.hm_messages.specs.declared.topic.Pair.TheVariants as pair
@@ -165,6 +165,7 @@ title (exhausted x) = codes "there is no memory to check module '" ++ x ++ codes
 title limit = codes "type errors after this one have no notes: the limit on trials is reached"
 title (step x y) = codes "'" ++ x ++ codes "' imports '" ++ y ++ codes "'"
 title (hidden k x) = hidden_title k x
+title (type_variable x t) = codes "'" ++ x ++ codes "' is a type variable; a type '" ++ t ++ codes "' is in scope"
 
 -- after an error stands its word, between brackets
 abbrev pub tag : Level → List ℕ → List ℕ

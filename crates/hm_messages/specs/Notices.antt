@@ -11,7 +11,7 @@ use Rattle.hm_verdicts.specs.Reports.{kind_word}
 use Rattle.hm_messages.specs.Sentences.{fault_sentence, types_sentence}
 use Rattle.hm_messages.specs.declared.topic.Way.{Way}
 use Rattle.hm_messages.specs.declared.topic.Way.TheVariants as way
-use Rattle.hm_messages.specs.Subjects.{Subject, fault, replaceable, wrapped, too_many_arguments, too_few_arguments, mistyped, unsigned, follows, faulty, skipped, too_long, lexeme, open_comment, too_deep, syntax_fault, too_many, twice, twin, missing, cycle, exhausted, limit, step, hidden}
+use Rattle.hm_messages.specs.Subjects.{Subject, fault, replaceable, wrapped, too_many_arguments, too_few_arguments, mistyped, unsigned, follows, faulty, skipped, too_long, lexeme, open_comment, too_deep, syntax_fault, too_many, twice, twin, missing, cycle, exhausted, limit, step, hidden, type_variable}
 
 -- its level; the report's word for what is wrong, or the word for a sort of note; the name that it is about, if it is about one; the other place that it
 -- names; the rule that is broken or a hint; the type that is expected at a part, and the type that the part or a definition has
@@ -87,3 +87,4 @@ notice_of (exhausted x) = error (codes "no-memory") (Some x) (codes "Its types g
 notice_of limit = note (codes "limit") None
 notice_of (step x y) = note (codes "import") (Some y)
 notice_of (hidden k x) = note (codes "hidden") (Some x)
+notice_of (type_variable x t) = note (codes "variable") (Some x)

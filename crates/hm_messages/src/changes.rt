@@ -74,5 +74,6 @@ pub(crate) fn said_changes(
         Topic::Limit => Ok(Vec::new(alloc)),
         Topic::Step(_, _) => Ok(Vec::new(alloc)),
         Topic::Hidden(_, _) => Ok(Vec::new(alloc)),
+        Topic::TypeVariable(_, _) => Ok(Vec::new(alloc)),
     }
 }

@@ -373,6 +373,9 @@ pub(crate) fn title(alloc: Global, topic: &Topic<'_>) -> Result<String, AllocErr
         ),
         Topic::Step(name, import) => format!(in alloc; "'{name}' imports '{import}'"),
         Topic::Hidden(kind, name) => hidden_title(alloc, *kind, name),
+        Topic::TypeVariable(name, ty) => format!(in alloc;
+            "'{name}' is a type variable; a type '{ty}' is in scope"
+        ),
     }
 }
 

@@ -234,5 +234,6 @@ pub(crate) fn notice_of<'a>(topic: &Topic<'a>) -> Notice<'a>
         Topic::Limit => note("limit", None),
         Topic::Step(_, import) => note("import", Some(import)),
         Topic::Hidden(_, name) => note("hidden", Some(name)),
+        Topic::TypeVariable(name, _) => note("variable", Some(name)),
     }
 }

@@ -128,4 +128,6 @@ pub enum Topic<'a> {
     Step(&'a str, &'a str),
     /// A fault that the report leaves out, because names of its module aren't in scope.
     Hidden(Kind, &'a str),
+    /// The first name is a type variable, and the second one that of a type in scope.
+    TypeVariable(&'a str, &'a str),
 }

@@ -1,8 +1,9 @@
-use Rattle.std.proofs.Common.{rules, ◌≡◌, ◌∙◌, ◌++◌, List, ℕ, ap, map, subst}
+use Rattle.std.proofs.Common.{rules, ◌≡◌, ◌∙◌, ◌++◌, ◌⊎◌, [], List, ℕ, ap, map, subst}
 use Rattle.std.specs.Prelude.{cond}
 use Rattle.std.specs.Arc.{arc_value}
 use Rattle.hm_build_messages.specs.Explanations.{IsNote}
 use Rattle.hm_build_messages.specs.Jointly.{AreJointNotes}
+use Rattle.hm_build_messages.specs.Variables.{AreVariableNotes}
 use Rattle.hm_build_messages.proofs.Jointly.{IsKept, kept_alone, kept_noted}
 use Rattle.hm_build_messages.proofs.faulty.own_notes.Goals as goal
 
@@ -20,14 +21,19 @@ returns c =
     let both = c.in_ok-both.both.items in
     let is_kept : IsKept note kept both = subst (λ (others : List ℕ). IsKept note kept others) c.as_slice.ensures.value c.kept-note.ensures in
     let ordered : c.in_ok-text.text.items ≡ cond leads (signed ++ kept) (kept ++ signed) = search rules in
-    let whole : c.extend_from_slice.new.self.items ≡ c.in_ok-text.text.items ++ both = search rules in
+    let variables = c.in_ok-variables.variables.items in
+    let middle : c.extend_from_slice.new.self.items ≡ c.in_ok-text.text.items ++ both = search rules in
+    let last : c.extend_from_slice-2.new.self.items ≡ c.extend_from_slice.new.self.items ++ variables = search rules in
     record {
       note = kept;
       signed = signed;
       both = both;
+      variables = variables;
       leads = leads;
       noted = kept_noted note kept both (IsNote format page.file.now page.lines name imports fault) is_kept c.in_ok-note.ensures;
       signature = c.in_ok-signed.ensures;
       jointly = kept_alone note kept both (AreJointNotes format page.file.now page.lines name imports fault both) is_kept c.in_ok-both.ensures;
-      whole = whole ∙ ap (λ (l : List ℕ). l ++ both) ordered;
+      alike = subst (λ (s : List ℕ). (variables ≡ []) ⊎ ((¬ (s ≡ [])) × AreVariableNotes format page.file.now page.lines name imports fault.name variables)) c.as_slice-2.ensures.value
+          c.in_ok-variables.ensures;
+      whole = last ∙ ap (λ (l : List ℕ). l ++ variables) (middle ∙ ap (λ (l : List ℕ). l ++ both) ordered);
     }
