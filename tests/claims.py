@@ -13,7 +13,8 @@ out of scope; a type or a value of Prelude declared again; a slip in an expressi
 - two expressions: with holes in both the definition has a type, with a hole in one of them it has none;
 - another expression: with a hole there, the definition has a type; an exchange, an argument left out, a text put in: the same with the changed source;
 - a type without a signature: the module without it is good, and has the same type with this one as the signature;
-- a fault that follows from a signature: without it, neither of the two definitions is a type fault.
+- a fault that follows from a signature: without it, neither of the two definitions is a type fault;
+- a type variable that is named like a type: with the type's name in its place, this name is in scope.
 
 Prints how often each was tried, and each claim that is false. Ends with 1 if there is one. The sources are a function of the seed.
 """
@@ -339,7 +340,19 @@ def try_follows(program, source, message):
     return "a fault that follows from a signature"
 
 
-CLAIMS = [try_change, try_near, try_written, try_types, try_part, try_both, try_signature, try_follows]
+def try_variable(program, source, message):
+    if message["kind"] != "variable":
+        return None
+    name, written = re.fullmatch(r"'([\w']+)' is a type variable; a type '([\w']+)' is in scope", message["text"]).groups()
+    start = offset(source, message["start"])
+    if not source.startswith(name, start) or written != name[0].upper() + name[1:]:
+        raise Finding(f"'{name}' isn't there, or isn't named like '{written}'")
+    if has_fault(ask(program, with_text(source, start, start + len(name), written))[1], message["start"]["line"], message["start"]["byte"], ("unbound",)):
+        raise Finding(f"'{written}' isn't in scope")
+    return "a type variable that is named like a type"
+
+
+CLAIMS = [try_change, try_near, try_written, try_types, try_part, try_both, try_signature, try_follows, try_variable]
 
 
 # Faults
