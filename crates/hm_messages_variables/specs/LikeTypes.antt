@@ -1,6 +1,6 @@
 -- Type variables in signatures that are named like types in scope (Report 2.2, 4.1.2, 4.4.1, 5.5.1).
 use Rattle.std.specs.Prelude.{ℕ, Bool, false, cond, ◌||◌, List, [], ◌∷◌, ◌++◌, None}
-use Rattle.core.specs.Char.{to_ascii_uppercase}
+use Rattle.std.specs.Char.{to_ascii_uppercase}
 use Rattle.hm_lex.specs.declared.token.Place.{Place}
 use Rattle.hm_syntax.specs.Names.{Identifier}
 use Rattle.hm_syntax.specs.Trees.{Declarations, no_declarations, more_declarations, data_declaration, newtype_declaration, synonym_declaration, signature, clause, pattern_binding}
