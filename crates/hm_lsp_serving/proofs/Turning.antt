@@ -1,16 +1,16 @@
 -- Frames that are taken one after another, and turns.
-use Rattle.std.proofs.Common.{◌≡◌, ◌∙◌, ◌+◌, ◌<◌, ◌≤◌, ◌++◌, ◌∷◌, [], ℕ, List, Option, None, Some, ap, append_assoc, arith, drop, get_or, length, map, refl, string_bytes, subst, sym, take}
+use Rattle.std.proofs.Common.{◌≡◌, ◌∙◌, ◌+◌, ◌<◌, ◌≤◌, ◌++◌, ◌∷◌, [], ℕ, List, Option, None, Some, ap, append_assoc, arith, drop, get_or, length, map, refl, subst, sym, take}
 use Rattle.std.proofs.KnownBytes.{Appends-nil, Appends-trans, Consumes-trans}
 use Rattle.std.proofs.lemmas.List.{append-nil, drop-map, drop_all, drop_more, length-append, length-take, map-append, take-append-drop, take_more}
-use Rattle.std.specs.Io.KnownBytes.{Appends, Consumes}
+use Rattle.std.specs.Io.KnownBytes.{Consumes}
 use Rattle.serde_json.specs.Data.{Data}
-use Rattle.hm_lsp_frames.specs.Frames.{Item, Reads}
+use Rattle.hm_lsp_frames.specs.Frames.{Reads}
 use Rattle.hm_lsp_frames.specs.Pending.{IsHeldBy, IsPending, TakesAll, item_of}
 use Rattle.hm_lsp_frames.specs.declared.frames.Frame.{Frame}
 use Rattle.hm_lsp_frames.specs.declared.frames.Frames.{Frames}
 use Rattle.hm_lsp_output.specs.Frames.{AreFramesOf}
 use Rattle.hm_lsp_server.specs.declared.server.Server.{Server}
-use Rattle.hm_lsp_serving.specs.Taking.{AreCancels, AreNoted, AreRead, IsFrameDone, IsItemNoted, IsRead, more as more_read, more as more_noted, none as none_noted}
+use Rattle.hm_lsp_serving.specs.Taking.{AreCancels, AreNoted, IsFrameDone, IsItemNoted, more as more_noted, none as none_noted}
 use Rattle.hm_lsp_serving.specs.Turns.{AreTaken, AreWritten, IsEndedIn, IsToldAfter, IsTurn, more as more_taken}
 
 -- what was written

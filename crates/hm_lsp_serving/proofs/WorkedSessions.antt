@@ -1,7 +1,7 @@
 -- Worked examples of sessions.
-use Rattle.std.proofs.Common.{◌≡◌, ◌∙◌, ◌<◌, ◌++◌, ◌∷◌, [], ℕ, List, ap, arith, length, refl, subst, sym}
+use Rattle.std.proofs.Common.{◌≡◌, ◌<◌, ◌++◌, ◌∷◌, [], ℕ, List, None, Some, ap, arith, length, refl}
 use Rattle.serde_json.specs.Data.{Data, null}
-use Rattle.hm_lsp_frames.specs.Frames.{Item, malformed, too_long}
+use Rattle.hm_lsp_frames.specs.Frames.{Item}
 use Rattle.hm_lsp_server.specs.declared.server.Server.{Server}
 use Rattle.hm_lsp_serving.specs.Taking.{AreNoted, none as no_items, more as more_items}
 use Rattle.hm_lsp_serving.specs.Turns.{HasServed, IsSession, begun, ended, input_ended, turn}
@@ -34,17 +34,20 @@ nothing_read : (s now : Server) (waits : List ℕ) (sent : List Data) → HasSer
 nothing_read s now waits sent (begun _ is _ _) = is
 nothing_read s now waits sent (turn {earlier = earlier} piece _ low _ is _) = absurd (some_bytes earlier piece low is)
 
-not_sent : (s : Server) (message : Data) → IsSession s [] (message ∷ []) 1 → ⊥
+not_sent : (s : Server) (message : Data) → IsSession s [] (message ∷ []) None → ⊥
 not_sent s message (input_ended {now = now} {waits = waits} served _) = data_not message [] (nothing_read s now waits (message ∷ []) served)
-not_sent s message (ended {earlier = earlier} piece _ low _ is _) = some_bytes earlier piece low is
+not_sent s message (ended {earlier = earlier} piece _ low _ _ is _) = some_bytes earlier piece low is
 
-not_well : (s : Server) → IsSession s [] [] 0 → ⊥
-not_well s (input_ended _ status) = omega (arith, status)
-not_well s (ended {earlier = earlier} piece _ low _ is _) = some_bytes earlier piece low is
+some_none : (n : ℕ) → Some n ≡ None → ⊥
+some_none n h = cc
+
+not_ended : (s : Server) → IsSession s [] [] (Some 0) → ⊥
+not_ended s (input_ended _ status) = some_none 0 status
+not_ended s (ended {earlier = earlier} piece _ low _ _ is _) = some_bytes earlier piece low is
 
 pub worked_sessions : SessionsRow
 worked_sessions = record {
   empty = λ s. input_ended (begun refl refl refl refl) refl;
   not_sent = not_sent;
-  not_well = not_well;
+  not_ended = not_ended;
 }

@@ -1,3 +1,4 @@
+pub mod Faults
 pub mod Steps
 pub mod Taking
 pub mod Turns

@@ -1,5 +1,5 @@
 -- Worked examples: frames without a body, messages that cancel requests, and sessions.
-use Rattle.std.specs.Prelude.{[], ◌∷◌}
+use Rattle.std.specs.Prelude.{[], ◌∷◌, None, Some}
 use Rattle.serde_json.specs.Data.{Data, null}
 use Rattle.hm_lsp_frames.specs.Frames.{malformed, too_long}
 use Rattle.hm_lsp_server.specs.declared.server.Server.{Server}
@@ -14,8 +14,8 @@ pub record FramesRow : Type 0 where
   pub not_silent : (s : Server) → ¬ (IsFrameTaken [] too_long s s Nothing)
   pub not_ended : (s : Server) → ¬ (IsFrameTaken [] malformed s s (Ended 0))
 
--- if nothing is read, nothing is sent, and the status is that of an input that ended
+-- if nothing is read, nothing is sent, and the client hasn't ended the server
 pub record SessionsRow : Type 0 where
-  pub empty : (s : Server) → IsSession s [] [] 1
-  pub not_sent : (s : Server) (message : Data) → ¬ (IsSession s [] (message ∷ []) 1)
-  pub not_well : (s : Server) → ¬ (IsSession s [] [] 0)
+  pub empty : (s : Server) → IsSession s [] [] None
+  pub not_sent : (s : Server) (message : Data) → ¬ (IsSession s [] (message ∷ []) None)
+  pub not_ended : (s : Server) → ¬ (IsSession s [] [] (Some 0))

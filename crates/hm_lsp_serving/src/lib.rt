@@ -4,12 +4,13 @@
 #![tactic(auto)]
 
 mod disk;
+mod faults;
 pub mod laws;
 mod serving;
 mod taking;
 mod turns;
 
 pub use crate::disk::{Disk, OnDisk};
+pub use crate::faults::ServeFault;
 pub use crate::serving::{Client, serve};
 pub use crate::taking::Serving;
-pub use hm_lsp_output::SendFault;

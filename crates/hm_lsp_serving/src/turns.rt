@@ -1,5 +1,5 @@
 //! A turn of the server: the frames that are whole, and the diagnostics after them.
-ghost use Rattle.std.specs.Prelude.{◌≡◌, ℕ, List, IfOk, OnOk, map};
+ghost use Rattle.std.specs.Prelude.{◌≡◌, ◌++◌, ℕ, List, IfOk, OnOk, map};
 ghost use Rattle.serde_json.specs.Data.{Data};
 ghost use Rattle.hm_lsp_frames.specs.Pending.{IsPending, item_of};
 ghost use Rattle.hm_lsp_server.specs.Servers.{IsOrderly};
@@ -117,19 +117,22 @@ fn finish<T: Threads + Wait + Sync, D: Disk + Drop, W: Write>(
     Ok(publish(rt, serving, writer)?)
 }
 
-/// Takes all frames that are whole, and sends the diagnostics if no byte of a frame is left. Returns the exit status if the server ends.
+/// Takes all frames that are whole after a piece was read, and sends the diagnostics if no byte of a frame is left. Returns the exit status if the server
+/// ends.
 pub(crate) fn take_turn<T: Threads + Wait + Sync, D: Disk + Drop, W: Write>(
     rt: &T,
     serving: &mut Serving<D>,
     writer: &mut W,
     frames: &mut Frames,
+    piece: &[u8],
 ) -> Result<Option<u8>, SendFault>
     requires { IsOrderly serving.old.server }
     ensures orderly { OnOk result (IsOrderly serving.new.server) }
-    ensures turn { IfOk result (λ status. (stream : List ℕ) → IsPending frames.old stream → (rest : List ℕ) × ((sent : List Data)
-        × (IsPending frames.new rest × (IsTurnOf stream serving.old.server serving.new.server rest sent status × AreWritten (W.contents writer.old) (W.contents writer.new) sent)))) }
+    ensures turn { IfOk result (λ status. (waits : List ℕ) → IsPending frames.old waits → (rest : List ℕ) × ((sent : List Data)
+        × (IsPending frames.new rest × (IsTurnOf (waits ++ piece.now) serving.old.server serving.new.server rest sent status × AreWritten (W.contents writer.old) (W.contents writer.new) sent)))) }
 {
     let alloc = serving.alloc;
+    frames.add(piece)?;
     let mut whole = Vec::new(alloc);
     take_all(frames, &mut whole)?;
     let whole = whole.as_slice();

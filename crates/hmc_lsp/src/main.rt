@@ -12,7 +12,7 @@ ghost use Rattle.hm_lsp_server.specs.Servers.{IsOrderly};
 use crate::folders::{Folders, HostDisk};
 use core::thread::Stack;
 use hm_lsp_server::Server;
-use hm_lsp_serving::{Client, SendFault, Serving, serve};
+use hm_lsp_serving::{Client, ServeFault, Serving, serve};
 use std::alloc::AllocError;
 use std::process::ExitCode;
 use std::sync::Wait;
@@ -61,9 +61,11 @@ fn started<'a, T: Threads>(
     })
 }
 
-/// Serves one client until it ends the server or the input ends. Returns the exit status.
-fn run<T: Threads + Wait + Sync>(rt: &T, host: &HostRuntime) -> Result<u8, SendFault> {
-    let serving = started(rt, host)?;
+/// Serves one client until it ends the server or the input ends. Returns the exit status, or `None` if the input has ended.
+fn run<T: Threads + Wait + Sync>(rt: &T, host: &HostRuntime) -> Result<Option<u8>, ServeFault> {
+    let Ok(serving) = started(rt, host) else {
+        return Err(ServeFault::Memory);
+    };
     let mut client = Client {
         reader: host.stdin(),
         writer: host.stdout(),
@@ -75,28 +77,36 @@ fn run<T: Threads + Wait + Sync>(rt: &T, host: &HostRuntime) -> Result<u8, SendF
 #[derive(Clone, Copy)]
 struct Served;
 
-impl Promise<Result<u8, SendFault>> for Served {
+impl Promise<Result<Option<u8>, ServeFault>> for Served {
     ghost kept_by = { λ p r. Unit {0} };
 }
 
-/// Serves one client on a thread with a large stack. Returns the exit status.
-fn run_on_thread<T: Threads + Wait + Sync>(rt: &T, host: &HostRuntime) -> Result<u8, SendFault> {
-    thread::scope(thread::scope_env(), rt, |scope| -> Result<u8, SendFault> {
-        let work = move || { run(rt, host) };
-        match Stack::new()
-            .stack_size(STACK)
-            .spawn_scoped_with(scope, Served, work)
-        {
-            Ok(server) => server.join(rt),
-            Err(_) => Err(SendFault::Memory),
-        }
-    })
+/// Serves one client on a thread with a large stack.
+fn run_on_thread<T: Threads + Wait + Sync>(
+    rt: &T,
+    host: &HostRuntime,
+) -> Result<Option<u8>, ServeFault> {
+    thread::scope(
+        thread::scope_env(),
+        rt,
+        |scope| -> Result<Option<u8>, ServeFault> {
+            let work = move || { run(rt, host) };
+            match Stack::new()
+                .stack_size(STACK)
+                .spawn_scoped_with(scope, Served, work)
+            {
+                Ok(server) => server.join(rt),
+                Err(_) => Err(ServeFault::Memory),
+            }
+        },
+    )
 }
 
 fn main(rt: HostRuntime) -> ExitCode {
     match run_on_thread(&rt, &rt) {
-        Ok(status) => ExitCode::from(status),
-        Err(SendFault::Memory) => ExitCode::from(3),
-        Err(SendFault::Write) => ExitCode::from(4),
+        Ok(Some(status)) => ExitCode::from(status),
+        Ok(None) | Err(ServeFault::Read) => ExitCode::from(1),
+        Err(ServeFault::Memory) => ExitCode::from(3),
+        Err(ServeFault::Write) => ExitCode::from(4),
     }
 }

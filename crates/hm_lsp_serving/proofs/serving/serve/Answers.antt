@@ -1,5 +1,5 @@
 use Rattle.std.proofs.Common.{[], ◌++◌, refl, subst, take}
-use Rattle.std.proofs.KnownBytes.{Consumes-kept, Consumes-nil, Consumes-trans}
+use Rattle.std.proofs.KnownBytes.{Consumes-nil, Consumes-trans}
 use Rattle.hm_lsp_serving.specs.Steps.{IsTurnOf}
 use Rattle.hm_lsp_serving.specs.Turns.{begun, ended, input_ended, turn}
 use Rattle.hm_lsp_serving.proofs.Turning.{consumed_none, some_taken, written_joined, written_none}
@@ -14,32 +14,25 @@ reads-init g c = (
   ),
 )
 
-pub returns-in_default : goal.returns-in_default
-returns-in_default g c =
-    let of = g.R.Read.remaining in
-    let i = c.reads.invariant.1.1.1 in
-    let consumed = Consumes-kept (of c.args.client.now.reader) (of c.reads.client.reader) (of c.read.new.self) i.0 i.1.1.1.1.1.0 c.in_default.ensures.bytes in
-    (i.0, (i.1.0, (input_ended i.1.1.1.0 refl, (consumed, i.1.1.1.1.1.1))))
-
-pub returns-then-count-eq0 : goal.returns-then-count-eq0
-returns-then-count-eq0 g c =
+pub returns-then-count-eq0-clause-session : goal.returns-then-count-eq0-clause-session
+returns-then-count-eq0-clause-session g c =
     let of = g.R.Read.remaining in
     let i = c.reads.invariant.1.1.1 in
     let consumed = consumed_none (of c.args.client.now.reader) (of c.reads.client.reader) (of c.read.new.self) i.0 c.read.new.buf c.in-Ok.count c.if-count-eq0.true i.1.1.1.1.1.0 c.in-Ok.ensures.bytes.0 in
     (i.0, (i.1.0, (input_ended i.1.1.1.0 refl, (consumed, i.1.1.1.1.1.1))))
 
-pub returns-in-Some-2 : goal.returns-in-Some-2
-returns-in-Some-2 g c =
+pub returns-in-Some-2-clause-session : goal.returns-in-Some-2-clause-session
+returns-in-Some-2-clause-session g c =
     let reading = g.R.Read.remaining in
     let writing = g.W.Write.contents in
     let i = c.reads.invariant.1.1.1 in
     let piece = take c.in-Ok.count c.read.new.buf in
-    let t = c.in_ok-status.ensures.turn (i.1.1.0 ++ piece) (c.in_ok-add.ensures.added i.1.1.0 i.1.1.1.1.0) in
+    let t = c.in_ok-status.ensures.turn i.1.1.0 i.1.1.1.1.0 in
     let last = subst (IsTurnOf (i.1.1.0 ++ piece) c.reads.serving.server c.take_turn.new.serving.server t.0 t.1.0) c.in-Some-2.is t.1.1.1.0 in
     let some = some_taken c.in-Ok.count c.read.new.buf c.if-count-eq0.false c.in-Ok.ensures.bound.0 in
     let consumed = Consumes-trans (reading c.args.client.now.reader) (reading c.reads.client.reader) (reading c.read.new.self) i.0 piece i.1.1.1.1.1.0 c.in-Ok.ensures.bytes.0 in
     let written = written_joined (writing c.args.client.now.writer) (writing c.reads.client.writer) (writing c.take_turn.new.writer) i.1.0 t.1.0 i.1.1.1.1.1.1 t.1.1.1.1 in
-    (i.0 ++ piece, (i.1.0 ++ t.1.0, (ended piece i.1.1.1.0 some last refl refl, (consumed, written))))
+    (i.0 ++ piece, (i.1.0 ++ t.1.0, (ended piece i.1.1.1.0 some last refl refl refl, (consumed, written))))
 
 pub reads-preserved : goal.reads-preserved
 reads-preserved g c =
@@ -47,7 +40,7 @@ reads-preserved g c =
     let writing = g.W.Write.contents in
     let i = c.reads.invariant.1.1.1 in
     let piece = take c.in-Ok.count c.read.new.buf in
-    let t = c.in_ok-status.ensures.turn (i.1.1.0 ++ piece) (c.in_ok-add.ensures.added i.1.1.0 i.1.1.1.1.0) in
+    let t = c.in_ok-status.ensures.turn i.1.1.0 i.1.1.1.1.0 in
     let one = subst (IsTurnOf (i.1.1.0 ++ piece) c.reads.serving.server c.take_turn.new.serving.server t.0 t.1.0) c.in-None-2.is t.1.1.1.0 in
     let some = some_taken c.in-Ok.count c.read.new.buf c.if-count-eq0.false c.in-Ok.ensures.bound.0 in
     let consumed = Consumes-trans (reading c.args.client.now.reader) (reading c.reads.client.reader) (reading c.read.new.self) i.0 piece i.1.1.1.1.1.0 c.in-Ok.ensures.bytes.0 in

@@ -1,4 +1,4 @@
-use Rattle.std.proofs.Common.{◌≡◌, IfNone, IfSome, refl, subst}
+use Rattle.std.proofs.Common.{IfNone, IfSome, refl, subst}
 use Rattle.serde_json.specs.View.{view}
 use Rattle.hm_lsp_session.specs.Cancelled.{IsCancelledReply, cancels_of}
 use Rattle.hm_lsp_serving.specs.Taking.{IsNotCancelled, cancelled, understood}

@@ -1,4 +1,4 @@
-use Rattle.std.proofs.Common.{[], List, map, refl, string_bytes, subst, sym}
+use Rattle.std.proofs.Common.{[], map, refl, string_bytes, subst, sym}
 use Rattle.hm_lsp_serving.specs.Taking.{AreRead, IsDone}
 use Rattle.hm_lsp_serving.proofs.Turning.{written_none}
 use Rattle.hm_lsp_serving.proofs.turns.act.Goals as goal

@@ -1,4 +1,4 @@
-use Rattle.std.proofs.Common.{[], ◌++◌, List, refl, subst}
+use Rattle.std.proofs.Common.{[], ◌++◌, refl, subst}
 use Rattle.hm_lsp_frames.specs.Pending.{item_of}
 use Rattle.hm_lsp_session.specs.Cancelled.{cancels_of}
 use Rattle.hm_lsp_serving.specs.Taking.{IsFrameDone}
