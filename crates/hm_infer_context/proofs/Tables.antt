@@ -1,9 +1,6 @@
 -- Tables of names, as lists of which the last comes first.
-use Rattle.std.proofs.Common.{◌≡◌, ℕ, ◌+◌, ◌≤◌, ◌<◌, List, [], ◌∷◌, ◌++◌, length, get_or, take, drop, refl, sym, ap, ◌∙◌, arith}
-use Rattle.std.proofs.lemmas.List.{take_more, take_all, take-append-drop, length-take-le, length-append}
-use Rattle.hm_types.specs.Monotypes.{Mono}
-use Rattle.hm_types.specs.Shape.{type_of}
-use Rattle.hm_typing.specs.Names.{Identifier}
+use Rattle.std.proofs.Common.{◌≡◌, ℕ, ◌+◌, ◌<◌, List, [], ◌∷◌, ◌++◌, length, get_or, take, drop, refl, sym, ap, ◌∙◌, arith}
+use Rattle.std.proofs.lemmas.List.{take_more, take-append-drop, length-take-le, length-append}
 use Rattle.hm_infer_context.specs.Patterns.{Variable}
 use Rattle.hm_infer_context.specs.Environments.{Assumed, monomorphic_entries}
 use Rattle.hm_infer_context.specs.Kept.{stack, variable_of, variables_of, assumed_of, entries_of, monomorphic_of}
@@ -69,11 +66,5 @@ pub monomorphic_stack : (xs : List KeptVariable) (vs : List Variable) (es : List
 monomorphic_stack [] vs es = refl
 monomorphic_stack (x ∷ xs) vs es = monomorphic_stack xs (variable_of x ∷ vs) es
 
-pub bound_more : (xs : List KeptVariable) (i : ℕ) (d : KeptVariable) (es fs gs : List Assumed) (key : Identifier) (t : Mono) → i < length xs → d ≡ get_or xs i d → fs ≡ stack monomorphic_of (take i xs) es → gs ≡ record { name = key; scheme = record { quantified = 0; body = t } } ∷ fs →
-    key ≡ (monomorphic_of d).name → t ≡ type_of d.ty → gs ≡ stack monomorphic_of (take (i + 1) xs) es
-bound_more xs i d es fs gs key t h e f g k n =
-    g ∙ (ap (λ y. record { name = y; scheme = record { quantified = 0; body = t } } ∷ fs) k ∙ (ap (λ y. record { name = (monomorphic_of d).name; scheme = record { quantified = 0; body = y } } ∷ fs) n ∙ (ap (λ y. monomorphic_of d ∷ y) f
-    ∙ sym (stack_push monomorphic_of (take i xs) (take (i + 1) xs) d es (take_more xs i d h ∙ ap (λ z. take i xs ++ z ∷ []) (sym e))))))
-
-pub bound_all : (xs : List KeptVariable) (i : ℕ) (vs : List Variable) (es fs : List Assumed) → length xs ≤ i → variables_of xs ≡ vs → fs ≡ stack monomorphic_of (take i xs) es → fs ≡ monomorphic_entries vs ++ es
-bound_all xs i vs es fs h v e = e ∙ (ap (λ ys. stack monomorphic_of ys es) (take_all i xs h) ∙ (monomorphic_stack xs [] es ∙ ap (λ ws. monomorphic_entries ws ++ es) v))
+pub bound_each : (xs ys : List KeptVariable) (vs : List Variable) (es fs : List Assumed) → ys ≡ xs → variables_of xs ≡ vs → fs ≡ stack monomorphic_of ys es → fs ≡ monomorphic_entries vs ++ es
+bound_each xs ys vs es fs y v e = e ∙ (ap (λ zs. stack monomorphic_of zs es) y ∙ (monomorphic_stack xs [] es ∙ ap (λ ws. monomorphic_entries ws ++ es) v))

@@ -167,7 +167,7 @@ fn places_of<'a>(
 ) -> Result<IndexMap<LentName<'a>, usize>, AllocError>
     ensures { IfOk result (AreFirstPlaces entries.now entries.now) }
 {
-    let mut places = IndexMap::new(alloc);
+    let mut places = IndexMap::with_capacity(alloc, entries.len())?;
     'entries: for behind in 0..entries.len() {
         let place = entries.len() - 1 - behind;
         let entry = &entries[place];

@@ -219,17 +219,12 @@ impl<'a> Environment<'a> {
     }
 
     /// Adds an assumption for each variable, with its type. The last is inside all others.
-    pub(crate) fn bind_variables(
-        &mut self,
-        alloc: Global,
-        variables: &Variables<'a>,
-    ) -> Result<(), AllocError>
-        ensures bound { OnOk result (self.new ≡ monomorphic_entries variables.now ++ self.old) }
+    pub(crate) fn bind_variables(&mut self, variables: Variables<'a>) -> Result<(), AllocError>
+        ensures bound { OnOk result (self.new ≡ monomorphic_entries variables.entry ++ self.old) }
         ensures kept { Extends self.old self.new }
     {
-        for item in variables.as_slice() {
-            let body = item.ty.copy(alloc)?;
-            self.bind(item.name, 0, body)?;
+        for item in variables.into_items() {
+            self.bind(item.name, 0, item.ty)?;
         }
         Ok(())
     }

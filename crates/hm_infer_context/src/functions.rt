@@ -52,9 +52,7 @@ pub fn open_function<'a>(
         pats,
         PartTypes::Row(first),
     )?;
-    inference
-        .environment
-        .bind_variables(inference.alloc, &variables)?;
+    inference.environment.bind_variables(variables)?;
     Ok(first + count)
 }
 
@@ -87,8 +85,6 @@ pub fn open_alternative<'a>(
         pat,
         &Ty::Var(first),
     )?;
-    inference
-        .environment
-        .bind_variables(inference.alloc, &variables)?;
+    inference.environment.bind_variables(variables)?;
     Ok(())
 }

@@ -39,7 +39,7 @@ pub(crate) fn tuple_type(alloc: Global, first: usize, count: usize) -> Result<Ty
     ensures shape { IfOk result (λ t. monotype (type_of t) ≡ tuple count (from_number false first)) }
     ensures given { IfOk result (λ t. (g : ℕ) → first + count ≤ g → IsWellFormed g (type_of t)) }
 {
-    let mut parts = Vec::new(alloc);
+    let mut parts = Vec::with_capacity(alloc, count)?;
     for j in 0..count {
         parts.push(Ty::Var(first + j))?;
     }

@@ -125,6 +125,18 @@ impl<'a> Variables<'a> {
     {
         &self.items
     }
+
+    /// Returns the variables as a `Vec`, in the order in which they were added. Allocates nothing.
+    pub(crate) fn into_items(self) -> Vec<Variable<'a>>
+        ensures { variables_of result.items ≡ self.entry }
+    {
+        let Variables {
+            alloc: _,
+            items,
+            places: _places,
+        } = self;
+        items
+    }
 }
 
 /// Returns the place of a variable with this name among the first few, if there is one.

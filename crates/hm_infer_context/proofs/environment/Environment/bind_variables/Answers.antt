@@ -1,8 +1,9 @@
-use Rattle.std.proofs.Common.{[], ◌∷◌, refl}
-use Rattle.hm_names_keys.specs.Keys.{variable_of_key}
-use Rattle.hm_names_keys.specs.Variables.{identifier}
-use Rattle.hm_types.specs.Shape.{type_of}
-use Rattle.hm_infer_context.proofs.Tables.{bound_more, bound_all}
+use Rattle.std.proofs.Common.{[], ◌∷◌, refl, sym, ◌∙◌}
+use Rattle.std.proofs.lemmas.Iterator.Adapters.{YieldsList-from_vec}
+use Rattle.std.proofs.lemmas.Iterator.Consumers.{YieldsList-end}
+use Rattle.std.proofs.lemmas.List.{map-id}
+use Rattle.hm_infer_context.specs.Kept.{monomorphic_of}
+use Rattle.hm_infer_context.proofs.Tables.{stack_pushed, bound_each}
 use Rattle.hm_infer_context.proofs.Extended.{extended, kept_on}
 use Rattle.hm_infer_context.proofs.environment.Environment.bind_variables.Goals as goal
 
@@ -11,8 +12,7 @@ loop-item-init c = record { bound = refl; kept = ([], refl) }
 
 pub loop-item-preserved : goal.loop-item-preserved
 loop-item-preserved c = record {
-  bound =
-      bound_more c.as_slice-item-items.result.now c.loop-item.item-index c.item-item.result c.args.self.now c.loop-item.self c.bind.new.self (identifier (variable_of_key c.item-item.result.name)) (type_of c.in_ok-body.body) c.loop-item-test.true c.item-item.is c.loop-item.invariant.bound c.in_ok-bind.ensures.bound refl c.in_ok-body.ensures;
+  bound = c.in_ok-bind.ensures.bound ∙ sym (stack_pushed monomorphic_of c.loop-item.yielded _ c.in-Some.item c.args.self.now c.loop-item.self refl (sym c.loop-item.invariant.bound));
   kept = extended c.args.self.now c.loop-item.self c.bind.new.self c.loop-item.invariant.kept (_ ∷ [], c.in_ok-bind.ensures.bound);
 }
 
@@ -20,4 +20,7 @@ pub returns-in_err-bind-clause-kept : goal.returns-in_err-bind-clause-kept
 returns-in_err-bind-clause-kept c = kept_on c.args.self.now c.loop-item.self c.bind.new.self c.loop-item.invariant.kept c.in_err-bind.ensures.same
 
 pub returns-clause-bound : goal.returns-clause-bound
-returns-clause-bound c = bound_all c.as_slice-item-items.result.now c.loop-item.item-index c.args.variables.now c.args.self.now c.loop-item.self c.loop-item-test.false c.as_slice-item-items.ensures c.loop-item.invariant.bound
+returns-clause-bound c =
+    let given = c.into_iter-item-iterator.ensures.into_iter_gives in
+    let all = YieldsList-end (YieldsList-from_vec {s = c.into_iter-item-iterator.result} c.into_items-item-items.result.items given.0 (given.1 ∙ c.into_items-item-items.result.ok.0)) c.loop-item.yielded c.loop-item.item-iterator c.loop-item.yielded_by c.next.result c.next.new.self c.in-None.is c.next.ensures.steps in
+    bound_each c.into_items-item-items.result.items c.loop-item.yielded c.args.variables c.args.self.now c.loop-item.self (sym (map-id c.loop-item.yielded) ∙ all.0) c.into_items-item-items.ensures c.loop-item.invariant.bound
