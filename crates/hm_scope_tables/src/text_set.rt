@@ -7,6 +7,9 @@ use indexmap::IndexSet;
 use std::alloc::{AllocError, Global};
 use std::marker::Model;
 
+/// The number of texts for which room is made at once. Few sets have only a few texts, because short lists are searched without a set.
+const ROOM: usize = 32;
+
 /// A set of texts. Contracts see a list, in the order of insertion.
 pub struct TextSet<'a> {
     keys: IndexSet<&'a str>,
@@ -62,6 +65,17 @@ impl<'a> TextSet<'a> {
         ensures added { IfOk result (λ r. r ≡ not (is_text_among text.now self.old)) }
         ensures texts { OnOk result (self.new ≡ cond (is_text_among text.now self.old) self.old (self.old ++ text.now ∷ [])) }
     {
+        make_room(&mut self.keys)?;
         Ok(self.keys.insert(text)?)
     }
+}
+
+/// Makes room in an empty set.
+fn make_room(keys: &mut IndexSet<&str>) -> Result<(), AllocError>
+    ensures { keys.new.keys ≡ keys.old.keys }
+{
+    if keys.is_empty() {
+        keys.reserve(ROOM)?;
+    }
+    Ok(())
 }
