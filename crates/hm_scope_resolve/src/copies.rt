@@ -21,8 +21,8 @@ pub fn copy_name(name: &Name) -> Result<Name, AllocError>
 pub fn owned_names(alloc: Global, names: &LentNames<'_>) -> Result<Vec<Name>, AllocError>
     ensures { IfOk result (λ copies. copies.items ≡ names.now) }
 {
-    let mut copies = Vec::new(alloc);
     let row = names.as_slice();
+    let mut copies = Vec::with_capacity(alloc, row.len())?;
     'names: for name in row {
         copies.push(copy_name(name)?)?;
     }
@@ -33,7 +33,7 @@ pub fn owned_names(alloc: Global, names: &LentNames<'_>) -> Result<Vec<Name>, Al
 pub fn copy_names(alloc: Global, names: &[Name]) -> Result<Vec<Name>, AllocError>
     ensures { IfOk result (λ copies. copies.items ≡ names.now) }
 {
-    let mut copies = Vec::new(alloc);
+    let mut copies = Vec::with_capacity(alloc, names.len())?;
     'names: for name in names {
         copies.push(copy_name(name)?)?;
     }
@@ -78,7 +78,7 @@ pub fn bound_names(
 ) -> Result<Vec<Name>, AllocError>
     ensures { IfOk result (λ copies. copies.items ≡ map (binder_of home.now) names.now) }
 {
-    let mut copies = Vec::new(alloc);
+    let mut copies = Vec::with_capacity(alloc, names.len())?;
     'names: for name in names {
         copies.push(bound_name(alloc, home, name)?)?;
     }

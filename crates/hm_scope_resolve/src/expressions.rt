@@ -76,7 +76,7 @@ impl Resolving<'_> {
         ensures trees { IfOk result (λ es. es.items ≡ map (expression_with (resolver_of self.old.known) (locals_of self.old)) row.now) }
         ensures state { OnOk result (self.new ≡ noting (expressions_faults self.old.known (locals_of self.old) (expressions row.now)) self.old) }
     {
-        let mut resolved = Vec::new(alloc);
+        let mut resolved = Vec::with_capacity(alloc, row.len())?;
         'row: for expr in row {
             resolved.push(self.expr(alloc, expr)?)?;
         }
@@ -204,7 +204,7 @@ impl Resolving<'_> {
         ensures trees { IfOk result (λ rest. rest.items ≡ map (alternative_with (resolver_of self.old.known) (locals_of self.old)) row.now) }
         ensures state { OnOk result (self.new ≡ noting (alternatives_faults self.old.known (locals_of self.old) (alternatives row.now)) self.old) }
     {
-        let mut resolved = Vec::new(alloc);
+        let mut resolved = Vec::with_capacity(alloc, row.len())?;
         'row: for alt in row {
             resolved.push(self.alt(alloc, alt)?)?;
         }
@@ -236,7 +236,7 @@ impl Resolving<'_> {
         ensures trees { IfOk result (λ ps. ps.items ≡ map (part_with (resolver_of self.old.known) (locals_of self.old)) row.now) }
         ensures state { OnOk result (self.new ≡ noting (parts_faults self.old.known (locals_of self.old) row.now) self.old) }
     {
-        let mut resolved = Vec::new(alloc);
+        let mut resolved = Vec::with_capacity(alloc, row.len())?;
         'row: for part in row {
             resolved.push(self.part(alloc, part)?)?;
         }
@@ -373,7 +373,7 @@ impl Resolving<'_> {
         ensures trees { IfOk result (λ ds. ds.items ≡ map (declaration_with (resolver_of self.old.known) (binder_of home.now) (locals_of self.old)) row.now) }
         ensures state { OnOk result (self.new ≡ noting (declarations_faults self.old.known (locals_of self.old) (declarations row.now)) self.old) }
     {
-        let mut resolved = Vec::new(alloc);
+        let mut resolved = Vec::with_capacity(alloc, row.len())?;
         'row: for decl in row {
             resolved.push(self.decl(alloc, home, decl)?)?;
         }

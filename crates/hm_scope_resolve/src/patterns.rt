@@ -82,7 +82,7 @@ impl Resolving<'_> {
         ensures trees { IfOk result (λ ps. ps.items ≡ map (pattern_with (resolver_of self.old.known) (binder_of home.now)) row.now) }
         ensures state { OnOk result (self.new ≡ noting (patterns_faults self.old.known (patterns row.now)) self.old) }
     {
-        let mut resolved = Vec::new(alloc);
+        let mut resolved = Vec::with_capacity(alloc, row.len())?;
         'row: for pat in row {
             resolved.push(self.pat(alloc, home, pat)?)?;
         }

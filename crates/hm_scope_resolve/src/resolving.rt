@@ -1,10 +1,9 @@
 //! The walk over the trees of a module. It copies each tree with its names resolved, and collects the faults of names.
-ghost use Rattle.std.specs.Prelude.{◌≡◌, ◌++◌, [], ◌∷◌, IfOk, OnOk};
+ghost use Rattle.std.specs.Prelude.{◌≡◌, ◌++◌, [], ◌∷◌, IfOk, OnOk, None};
 ghost use Rattle.hm_names.specs.declared.namespace.Namespace.TheVariants.{Types, Constructors, Values};
 ghost use Rattle.hm_syntax.specs.Trees.{variable_expression, constructor_expression};
 ghost use Rattle.hm_names.specs.Faults.Phases.{fault};
-ghost use Rattle.hm_names.specs.Found.{lookups_in, noting, entering, leaving, locals_of, stays, resolved_name, resolver_of, expression_faults, name_faults, type_name_faults, pattern_name_faults, other_arity, type_arity_meant, pattern_arity, synonym_among};
-ghost use Rattle.hm_names.specs.Bindings.{meaning_in};
+ghost use Rattle.hm_names.specs.Found.{lookups_in, noting, entering, leaving, locals_of, stays, resolved_name, resolver_of, expression_faults, name_faults, type_name_faults, pattern_name_faults, other_arity, synonym_among};
 ghost use Rattle.hm_names.specs.Special.{special_of};
 ghost use Rattle.hm_names.specs.Types.{entity_of};
 ghost use Rattle.hm_names.specs.Expansion.{expanded};
@@ -106,9 +105,21 @@ impl Resolving<'_> {
         ensures name { IfOk result (λ n. n ≡ resolved_name self.old.known.pairs Types [] name.now) }
         ensures state { OnOk result (self.new ≡ noting (type_name_faults self.old.known name.now (type_count (types args.now))) self.old) }
     {
-        let resolved = self.name(alloc, Namespace::Types, name)?;
-        self.type_arity(alloc, name, args.len())?;
-        Ok(resolved)
+        match self.scope.meaning(Namespace::Types, name) {
+            Meaning::Unbound => {
+                self.note(alloc, Kind::Unbound, name)?;
+                Ok(copy_name(name)?)
+            }
+            Meaning::Ambiguous => {
+                self.note(alloc, Kind::Ambiguous, name)?;
+                Ok(copy_name(name)?)
+            }
+            Meaning::Entity(entity) => {
+                let arity = self.tables.type_arity(&entity);
+                self.arity(alloc, arity, name, args.len())?;
+                Ok(entity_name(alloc, name, &entity)?)
+            }
+        }
     }
 
     /// Resolves the name of a constructor in a pattern with `count` arguments, and adds its faults.
@@ -122,9 +133,42 @@ impl Resolving<'_> {
         ensures name { IfOk result (λ n. n ≡ resolved_name self.old.known.pairs Constructors [] name.now) }
         ensures state { OnOk result (self.new ≡ noting (pattern_name_faults self.old.known name.now (pattern_count (patterns args.now))) self.old) }
     {
-        let resolved = self.name(alloc, Namespace::Constructors, name)?;
-        self.pattern_arity(alloc, name, args.len())?;
-        Ok(resolved)
+        match special_arity(name) {
+            Some(arity) => {
+                self.arity(alloc, Some(arity), name, args.len())?;
+                Ok(copy_name(name)?)
+            }
+            None => Ok(self.declared_name(alloc, name, args.len())?),
+        }
+    }
+
+    /// Resolves the name of a constructor in a pattern with `count` arguments, unless it is special, and adds its faults.
+    #[tactic(auto, unfolding(hm_names::specs::Found::resolved_name, hm_names::specs::Found::name_faults, hm_names::specs::Found::pattern_name_faults))]
+    fn declared_name(
+        &mut self,
+        alloc: Global,
+        name: &Name,
+        count: usize,
+    ) -> Result<Name, AllocError>
+        requires { special_of name.now ≡ None }
+        ensures name { IfOk result (λ n. n ≡ resolved_name self.old.known.pairs Constructors [] name.now) }
+        ensures state { OnOk result (self.new ≡ noting (pattern_name_faults self.old.known name.now count) self.old) }
+    {
+        match self.scope.meaning(Namespace::Constructors, name) {
+            Meaning::Unbound => {
+                self.note(alloc, Kind::Unbound, name)?;
+                Ok(copy_name(name)?)
+            }
+            Meaning::Ambiguous => {
+                self.note(alloc, Kind::Ambiguous, name)?;
+                Ok(copy_name(name)?)
+            }
+            Meaning::Entity(entity) => {
+                let arity = self.tables.constructor_arity(&entity);
+                self.arity(alloc, arity, name, count)?;
+                Ok(entity_name(alloc, name, &entity)?)
+            }
+        }
     }
 
     /// Adds the fault of a name with another number of arguments than the known one.
@@ -145,38 +189,6 @@ impl Resolving<'_> {
                 }
                 Ok(self.note(alloc, Kind::Arity, name)?)
             }
-        }
-    }
-
-    /// Adds the fault of a type constructor with a wrong number of arguments.
-    fn type_arity(&mut self, alloc: Global, name: &Name, count: usize) -> Result<(), AllocError>
-        ensures { OnOk result (self.new ≡ noting
-            (other_arity (type_arity_meant self.old.known (meaning_in self.old.known.pairs Types name.now)) count name.now) self.old) }
-    {
-        match self.scope.meaning(Namespace::Types, name) {
-            Meaning::Unbound => Ok(()),
-            Meaning::Ambiguous => Ok(()),
-            Meaning::Entity(entity) => {
-                let arity = self.tables.type_arity(&entity);
-                Ok(self.arity(alloc, arity, name, count)?)
-            }
-        }
-    }
-
-    /// Adds the fault of a constructor in a pattern with a wrong number of arguments.
-    fn pattern_arity(&mut self, alloc: Global, name: &Name, count: usize) -> Result<(), AllocError>
-        ensures { OnOk result (self.new ≡ noting (other_arity (pattern_arity self.old.known (special_of name.now) name.now) count name.now) self.old) }
-    {
-        match special_arity(name) {
-            Some(arity) => Ok(self.arity(alloc, Some(arity), name, count)?),
-            None => match self.scope.meaning(Namespace::Constructors, name) {
-                Meaning::Unbound => Ok(()),
-                Meaning::Ambiguous => Ok(()),
-                Meaning::Entity(entity) => {
-                    let arity = self.tables.constructor_arity(&entity);
-                    Ok(self.arity(alloc, arity, name, count)?)
-                }
-            },
         }
     }
 

@@ -108,7 +108,7 @@ impl Resolving<'_> {
         ensures trees { IfOk result (λ cs. cs.items ≡ map (constructor_with (resolver_of self.old.known) (binder_of home.now)) row.now) }
         ensures state { OnOk result (self.new ≡ noting (constructors_faults self.old.known (constructors row.now)) self.old) }
     {
-        let mut resolved = Vec::new(alloc);
+        let mut resolved = Vec::with_capacity(alloc, row.len())?;
         'row: for constr in row {
             resolved.push(self.constr(alloc, home, constr)?)?;
         }

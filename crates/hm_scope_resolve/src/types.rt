@@ -62,7 +62,7 @@ impl Resolving<'_> {
         ensures trees { IfOk result (λ ts. ts.items ≡ map (type_with (resolver_of self.old.known)) row.now) }
         ensures state { OnOk result (self.new ≡ noting (types_faults self.old.known (types row.now)) self.old) }
     {
-        let mut resolved = Vec::new(alloc);
+        let mut resolved = Vec::with_capacity(alloc, row.len())?;
         'row: for ty in row {
             resolved.push(self.type_expr(alloc, ty)?)?;
         }
