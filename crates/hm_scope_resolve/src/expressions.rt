@@ -218,6 +218,11 @@ impl Resolving<'_> {
         ensures tree { IfOk result (λ r. r ≡ right_side_with (resolver_of self.old.known) (locals_of self.old) rhs.now) }
         ensures state { OnOk result (self.new ≡ noting (right_side_faults self.old.known (locals_of self.old) rhs.now) self.old) }
     {
+        if rhs.local.as_slice().is_empty() {
+            let parts = self.part_row(alloc, &rhs.parts)?;
+            let local = Vec::new(alloc);
+            return Ok(Rhs { parts, local });
+        }
         self.enter_list(alloc, &rhs.local)?;
         let parts = self.part_row(alloc, &rhs.parts)?;
         let local = self.decl_list(alloc, &rhs.local)?;

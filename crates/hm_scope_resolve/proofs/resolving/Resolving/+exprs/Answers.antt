@@ -1,8 +1,9 @@
-use Rattle.std.proofs.Common.{refl, ap, ◌∙◌}
+use Rattle.std.proofs.Common.{refl, sym, ap, ◌∙◌}
 use Rattle.hm_syntax.specs.Lists.{declarations}
 use Rattle.hm_names.specs.Resolved.{declaration_with}
-use Rattle.hm_names.specs.Found.{Walking, resolver_of, binder_of, declaration_faults, declarations_faults}
+use Rattle.hm_names.specs.Found.{Walking, locals_of, resolver_of, binder_of, declaration_faults, declarations_faults}
 use Rattle.hm_names.proofs.Rows.{trees_on, state_on, listed}
+use Rattle.hm_scope_resolve.proofs.Walks.{none_local, side_resolved, side_noted}
 use Rattle.hm_scope_resolve.proofs.resolving.Resolving.+exprs.Goals as goal
 
 pub decl_row-row-preserved : goal.decl_row-row-preserved
@@ -15,3 +16,13 @@ decl_row-row-preserved t c = record {
 
 pub decl_list-returns-clause-trees : goal.decl_list-returns-clause-trees
 decl_list-returns-clause-trees t c = listed c.args.self.now c.note_list.new.self _ c.args.decls.now _ c.in_ok-note_list.ensures c.in_ok-decl_row.ensures.trees
+
+pub rhs-returns-then-is_empty-clause-tree : goal.rhs-returns-then-is_empty-clause-tree
+rhs-returns-then-is_empty-clause-tree t c =
+    let empty = none_local c.rhs.inside.local.items c.as_slice.result.now c.is_empty.result c.as_slice.ensures.value c.is_empty.ensures c.if-is_empty.true in
+    side_resolved c.args.self.now.known (locals_of c.args.self.now) c.args.rhs.now c.rhs.inside.parts.items c.deref.result.now c.rhs.inside.local.items (sym c.rhs.view_is) c.deref.ensures.value empty c.in_ok-parts.parts.items c.new-local.result.items c.in_ok-parts.ensures.trees c.new-local.ensures.items
+
+pub rhs-returns-then-is_empty-clause-state : goal.rhs-returns-then-is_empty-clause-state
+rhs-returns-then-is_empty-clause-state t c =
+    let empty = none_local c.rhs.inside.local.items c.as_slice.result.now c.is_empty.result c.as_slice.ensures.value c.is_empty.ensures c.if-is_empty.true in
+    side_noted c.args.self.now.known (locals_of c.args.self.now) c.args.rhs.now c.rhs.inside.parts.items c.deref.result.now c.rhs.inside.local.items (sym c.rhs.view_is) c.deref.ensures.value empty c.args.self.now c.part_row.new.self c.in_ok-parts.ensures.state
