@@ -14,6 +14,9 @@ use hm_types::{Interface, ValueEntry};
 use std::alloc::{AllocError, Global};
 use std::sync::Arc;
 
+/// The number of local variables for which an environment has room at once.
+const LOCAL_ROOM: usize = 32;
+
 /// Binds a variable to its scheme.
 fn assume_value<'a>(
     environment: &mut Environment<'a>,
@@ -35,7 +38,6 @@ fn assume_values<'a>(
     ensures assumed { OnOk result (assumptions environment.new ≡ assumed_inside values.now (assumptions environment.old)) }
     ensures closed { OnOk result (AreAssumed 0 environment.old → AreAssumed 0 environment.new) }
 {
-    environment.reserve(values.len())?;
     'values: for behind in 0..values.len() {
         let place = values.len() - 1 - behind;
         assume_value(environment, &values[place])?;
@@ -43,16 +45,28 @@ fn assume_values<'a>(
     Ok(())
 }
 
-/// Returns an environment with the variables that interfaces export. If an entity has several
+/// Returns how many variables interfaces export.
+fn count_of_values(interfaces: &[Arc<Interface>]) -> usize {
+    let mut count: usize = 0;
+    for interface in interfaces {
+        count = count.saturating_add(interface.values().len());
+    }
+    count
+}
+
+/// Returns an environment with the variables that interfaces export, and room for `own` more and for some local ones. If an entity has several
 /// entries, the first counts.
 pub fn imported_environment<'a>(
     alloc: Global,
     interfaces: &'a [Arc<Interface>],
+    own: usize,
 ) -> Result<Environment<'a>, AllocError>
     ensures assumed { IfOk result (λ environment. assumptions environment ≡ assumed (imported_values (map arc_value interfaces.now))) }
     ensures closed { IfOk result (AreAssumed 0) }
 {
     let mut environment = Environment::new(alloc);
+    let more = own.saturating_add(LOCAL_ROOM);
+    environment.reserve(count_of_values(interfaces).saturating_add(more))?;
     'interfaces: for behind in 0..interfaces.len() {
         let place = interfaces.len() - 1 - behind;
         let interface = &interfaces[place];

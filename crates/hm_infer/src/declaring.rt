@@ -129,6 +129,15 @@ fn add_exported<'a>(
     Ok(())
 }
 
+/// Returns how many constructors interfaces export.
+fn count_of_constructors(interfaces: &[Arc<Interface>]) -> usize {
+    let mut count: usize = 0;
+    for interface in interfaces {
+        count = count.saturating_add(interface.constructors().len());
+    }
+    count
+}
+
 /// Adds the constructors of interfaces.
 fn add_imported<'a>(
     entries: &mut Vec<Entry<'a>>,
@@ -136,6 +145,7 @@ fn add_imported<'a>(
 ) -> Result<(), AllocError>
     ensures { OnOk result (schemes_of entries.new.items ≡ schemes_of entries.old.items ++ imported_schemes (map arc_value interfaces.now)) }
 {
+    entries.reserve(count_of_constructors(interfaces))?;
     'interfaces: for interface in interfaces {
         add_exported(entries, interface.constructors())?;
     }

@@ -114,13 +114,13 @@ fn infer_with(
     ensures schemes { IfOk result (λ schemes. ArePrincipal core.now (scheme_of schemes)) }
     ensures faults { IfErr result (IsUntypable core.now) }
 {
-    let environment = imported_environment(alloc, core.interfaces.as_slice())?;
+    let list = core.decls.as_slice();
+    let environment = imported_environment(alloc, core.interfaces.as_slice(), list.len())?;
     let mut inference = Inference {
         alloc,
         solver: Solver::with_limits(alloc, limits.levels, limits.nodes),
         environment,
     };
-    let list = core.decls.as_slice();
     match infer_list(&mut inference, constructors, list) {
         Ok(()) => Ok(own_schemes(alloc, core.name.as_str(), &inference.environment)?),
         Err(UnifyFault::Clash) => Err(untypable(alloc, core, constructors, limits)),

@@ -115,13 +115,13 @@ pub(crate) fn untyped_units(
     requires untyped { (B : UnitName → Scheme) → HasSchemes (assumptions_of core.now) (syntax_of core.now) B → ⊥ }
     ensures { IfOk result (λ found. AreUntyped core.now found) }
 {
-    let environment = imported_environment(alloc, core.interfaces.as_slice())?;
+    let decls = core.decls.as_slice();
+    let environment = imported_environment(alloc, core.interfaces.as_slice(), decls.len())?;
     let mut inference = Inference {
         alloc,
         solver: Solver::with_limits(alloc, limits.levels, limits.nodes),
         environment,
     };
-    let decls = core.decls.as_slice();
     let starts = fault_starts(&mut inference, constructors, decls)?;
     Ok(told_faults(alloc, decls, &starts)?)
 }
