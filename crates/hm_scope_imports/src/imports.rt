@@ -56,6 +56,15 @@ fn add_entry<'a>(
     Ok(add_both(pairs, brought.name, space, text, found)?)
 }
 
+/// Returns how many pairs so many entries bring in, at most: each a qualified one, and a bare one unless the import is qualified.
+fn pairs_of(brought: &Brought<'_, '_>, entries: usize) -> usize {
+    if brought.qualified {
+        entries
+    } else {
+        entries.saturating_mul(2)
+    }
+}
+
 /// Adds the selected ones of these entries, all of one namespace.
 fn add_entries<'a, E: Named>(
     pairs: &mut Vec<Binding<'a>>,
@@ -67,7 +76,7 @@ fn add_entries<'a, E: Named>(
         × (Contains entries.now r × (Selects brought.now.selection.now space (E.name_of r)
         × IsPairOf brought.now.qualified brought.now.name.now space (E.name_of r) (E.entity_of r) p)))) }
 {
-    pairs.reserve(entries.len())?;
+    pairs.reserve(pairs_of(brought, entries.len()))?;
     for entry in entries {
         add_entry(pairs, brought, space, entry.name(), entry.entity())?;
     }
