@@ -6,7 +6,7 @@ ghost use Rattle.hm_parse_grammar.specs.Reading.Answers.{Gives};
 ghost use Rattle.hm_parse_grammar.specs.declared.symbol.Symbol.TheVariants.{Open};
 
 use crate::cursor::{Context, Parser};
-use crate::owned::{both_boxed, boxed, only};
+use crate::owned::{both_boxed, boxed, first_of_two, only};
 use crate::types::MAX_COMPONENTS;
 use hm_lex::Place;
 use hm_parse_grammar::{ParseFault, Symbol};
@@ -331,7 +331,7 @@ impl Parser<'_> {
         if !self.at(Symbol::Comma) {
             return Ok(self.before(first, Symbol::Close)?);
         }
-        let mut found = only(alloc, first)?;
+        let mut found = first_of_two(alloc, first)?;
         'components: while self.at(Symbol::Comma) {
             if found.len() == MAX_COMPONENTS {
                 return Err(ParseFault::Syntax(self.place()));

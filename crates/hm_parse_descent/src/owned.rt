@@ -24,6 +24,15 @@ pub(crate) fn both_boxed<T: Drop, U: Drop>(
     Ok((first, second))
 }
 
+/// Returns a list with this part, and room for a second one.
+pub(crate) fn first_of_two<T: Drop>(alloc: Global, part: T) -> Result<Vec<T>, AllocError>
+    ensures { IfOk result (λ parts. parts.items ≡ part ∷ []) }
+{
+    let mut parts = Vec::with_capacity(alloc, 2)?;
+    parts.push(part)?;
+    Ok(parts)
+}
+
 /// Returns a list with only this part.
 pub(crate) fn only<T: Drop>(alloc: Global, part: T) -> Result<Vec<T>, AllocError>
     ensures { IfOk result (λ parts. parts.items ≡ part ∷ []) }

@@ -8,7 +8,7 @@ ghost use Rattle.hm_parse_grammar.specs.Reading.Answers.{Gives};
 ghost use Rattle.hm_parse_grammar.specs.declared.symbol.Symbol.TheVariants.{Colon, Comma, Open};
 
 use crate::cursor::Parser;
-use crate::owned::{boxed, only};
+use crate::owned::{boxed, first_of_two, only};
 use crate::types::MAX_COMPONENTS;
 use hm_parse_grammar::{ParseFault, Symbol};
 use hm_syntax::{Literal, LiteralKind, Name, Pat, PatKind};
@@ -199,7 +199,7 @@ impl Parser<'_> {
         if !self.at(Symbol::Colon) {
             return Ok(first);
         }
-        let mut both = only(alloc, first)?;
+        let mut both = first_of_two(alloc, first)?;
         let colon = self.colon(alloc)?;
         let second = or_drop!(self.pat(alloc), both, colon);
         both.push(second)?;
@@ -311,7 +311,7 @@ impl Parser<'_> {
         if !self.at(Symbol::Comma) {
             return Ok(self.before(first, Symbol::Close)?);
         }
-        let mut found = only(alloc, first)?;
+        let mut found = first_of_two(alloc, first)?;
         'components: while self.at(Symbol::Comma) {
             if found.len() == MAX_COMPONENTS {
                 return Err(ParseFault::Syntax(self.place()));

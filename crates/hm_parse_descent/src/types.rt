@@ -3,7 +3,7 @@ ghost use Rattle.hm_parse_grammar.specs.Reading.Types.{type_in, atype_with, atyp
 ghost use Rattle.hm_parse_grammar.specs.Reading.Answers.{Gives};
 
 use crate::cursor::Parser;
-use crate::owned::{boxed, only};
+use crate::owned::{boxed, first_of_two};
 use hm_parse_grammar::{ParseFault, Symbol};
 use hm_syntax::{TypeExpr, TypeKind};
 use std::alloc::Global;
@@ -109,7 +109,7 @@ impl Parser<'_> {
         if !self.at(Symbol::Comma) {
             return Ok(self.before(first, Symbol::Close)?);
         }
-        let mut found = only(alloc, first)?;
+        let mut found = first_of_two(alloc, first)?;
         'components: while self.at(Symbol::Comma) {
             if found.len() == MAX_COMPONENTS {
                 return Err(ParseFault::Syntax(self.place()));
