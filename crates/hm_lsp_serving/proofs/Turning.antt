@@ -9,9 +9,12 @@ use Rattle.hm_lsp_frames.specs.Pending.{IsHeldBy, IsPending, TakesAll, item_of}
 use Rattle.hm_lsp_frames.specs.declared.frames.Frame.{Frame}
 use Rattle.hm_lsp_frames.specs.declared.frames.Frames.{Frames}
 use Rattle.hm_lsp_output.specs.Frames.{AreFramesOf}
+use Rattle.hm_lsp_server.specs.Published.{IsPublished}
+use Rattle.hm_lsp_server.specs.Servers.{held_of, session_of, sources_of}
 use Rattle.hm_lsp_server.specs.declared.server.Server.{Server}
+use Rattle.hm_lsp_serving.specs.Steps.{IsPublishedNow}
 use Rattle.hm_lsp_serving.specs.Taking.{AreCancels, AreNoted, IsFrameDone, IsItemNoted, more as more_noted, none as none_noted}
-use Rattle.hm_lsp_serving.specs.Turns.{AreTaken, AreWritten, IsEndedIn, IsToldAfter, IsTurn, more as more_taken}
+use Rattle.hm_lsp_serving.specs.Turns.{AreTaken, AreWritten, IsEndedIn, IsLastTurn, IsToldAfter, IsTurn, more as more_taken}
 
 -- what was written
 
@@ -100,6 +103,21 @@ turn_of stream frames whole cancels before middle after replies later (new, rest
     },
   ),
 )
+
+-- the last turn
+pub last_turn_of : (stream : List ℕ) (frames : Frames) (whole : List Frame) (cancels : List Data) (before : Server) (sent : List Data) (status : ℕ) → TakesAll frames stream [] whole → AreCancels (map item_of whole) cancels
+    → IsEndedIn cancels (map item_of whole) before sent status → (rest : List ℕ) × (IsPending frames rest × IsLastTurn stream before sent status)
+last_turn_of stream frames whole cancels before sent status (new, rest, all_are, reads, pending) cancel ends = (
+  rest,
+  (pending, record { items = map item_of whole; cancels = cancels; rest = rest; reads = subst (λ l. Reads stream (map item_of l) rest) (sym all_are) reads; cancel = cancel; ends = ends }),
+)
+
+-- the diagnostics are sent
+pub published_of : (before after : Server) (a b : Option (List ℕ)) (first all : List Data) → first ≡ [] → (new : List Data) × (all ≡ first ++ new) × IsPublished before after new → session_of after ≡ session_of before
+    → sources_of after ≡ sources_of before → held_of after ≡ held_of before → AreWritten a b all → (sent : List Data) × (IsPublishedNow before after sent × AreWritten a b sent)
+published_of before after a b first all none (new, is, published) session sources held written =
+    let same : all ≡ new = is ∙ ap (λ l. l ++ new) none in
+    (new, (record { published = published; session = session; sources = sources; held = held }, subst (AreWritten a b) same written))
 
 -- what was read
 
