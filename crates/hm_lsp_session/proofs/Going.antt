@@ -53,6 +53,12 @@ editing ShutDown DidChangeWatchedFiles h = absurd (false≢true (ap is_go h))
 editing ShutDown (Question q) h = absurd (false≢true (ap is_go h))
 editing ShutDown Unknown h = absurd (false≢true (ap is_go h))
 
+-- `initialize` begins a session
+pub opens : (s : Stage) → request_decision s Initialize ≡ Go → s ≡ New
+opens New h = refl
+opens Ready h = absurd (false≢true (ap is_go h))
+opens ShutDown h = absurd (false≢true (ap is_go h))
+
 -- `initialize` and `shutdown` are taken once, and questions while the session is ready
 pub first_step : (s after : Stage) (reply : Value) → request_decision s Initialize ≡ Go → after ≡ Ready → IsStep s (Reply reply) after
 first_step New after reply h is = inr is

@@ -2,9 +2,11 @@ mod Going
 mod Holding
 mod Identifiers
 mod Listing
+mod Offering
 mod Reading
 mod Taking
 mod WorkedCancels
 mod WorkedChanges
 mod WorkedDecisions
 mod WorkedFolders
+mod WorkedUnits

@@ -7,4 +7,5 @@ pub mod Params
 pub mod Replies
 pub mod Stages
 pub mod Steps
+pub mod Units
 pub mod Worked

@@ -1,10 +1,12 @@
 -- Worked examples: what a server does with a message, the changes, files and folders that a message has, and the request that one cancels.
 use Rattle.std.specs.Prelude.{◌≡◌, [], ◌∷◌, None, Some, codes}
-use Rattle.serde_json.specs.Data.{Data, array, item, member, no_items, no_members, number, object, string, unsigned}
+use Rattle.serde_json.specs.Data.{Data, Items, array, item, member, no_items, no_members, null, number, object, string, unsigned}
 use Rattle.hm_lsp_positions.specs.declared.changes.Change.{Change}
 use Rattle.hm_lsp_session.specs.Cancelled.{IsOfId, IsSameId}
 use Rattle.hm_lsp_session.specs.Folders.{IsOpening, folders_in, sources_in}
 use Rattle.hm_lsp_session.specs.Params.{AreChangesIn, changed_files}
+use Rattle.hm_lsp_positions.specs.declared.units.Encoding.TheVariants.{Utf16, Utf8}
+use Rattle.hm_lsp_session.specs.Units.{HasText, IsAgreed}
 use Rattle.hm_lsp_session.specs.Stages.{method_named, notification_decision, request_decision}
 use Rattle.hm_lsp_session.specs.declared.stages.Decision.TheVariants.{End, Go, Ignore, Refuse}
 use Rattle.hm_lsp_session.specs.declared.stages.Method.TheVariants.{DidOpen, Exit, Initialize, Question}
@@ -77,3 +79,14 @@ pub record FoldersRow : Type 0 where
   pub opens : IsOpening first_message (number (unsigned 1))
   pub not_root : ¬ (folders_in (Some two_folders) ≡ codes "a" ∷ [])
   pub not_cancel : ¬ (IsOpening cancel (number (unsigned 7)))
+
+-- a client that offers units of UTF-16 and of UTF-8
+abbrev pub two_units : Items
+two_units = item (string (codes "utf-16")) (item (string (codes "utf-8")) no_items)
+
+-- UTF-8 is among the offered units, wherever it is in the list. A client that offers none has those of UTF-16
+pub record UnitsRow : Type 0 where
+  pub offered : HasText (codes "utf-8") two_units
+  pub not_offered : ¬ (HasText (codes "utf-32") two_units)
+  pub each_has : IsAgreed null Utf16
+  pub not_bytes : ¬ (IsAgreed null Utf8)

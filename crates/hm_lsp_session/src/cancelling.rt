@@ -3,11 +3,11 @@ ghost use Rattle.std.specs.Prelude.{◌≡◌, ◌↔◌, [], IfNone, IfOk, IfSo
 ghost use Rattle.std.specs.List.{Any};
 ghost use Rattle.std.specs.Str.{IsUtf8};
 ghost use Rattle.serde_json.specs.Data.{Data};
-ghost use Rattle.serde_json.specs.Find.{as_str};
 ghost use Rattle.serde_json.specs.Read.{read};
 ghost use Rattle.serde_json.specs.View.{view};
 ghost use Rattle.hm_lsp_session.specs.Cancelled.{IsCancel, IsCancelled, IsCancelledReply, IsNoted, IsOfId, IsRequest, IsSameId, cancels_of, number_of};
 
+use crate::params::is_text;
 use crate::replies::refusal;
 use crate::session::method_of;
 use crate::stages::{Method, Refusal};
@@ -27,16 +27,6 @@ fn is_number(id: &Value, number: i64) -> bool
 {
     match id.as_i64() {
         Some(own) => own == number,
-        None => false,
-    }
-}
-
-/// Returns whether an identifier is this text.
-fn is_text(id: &Value, text: &str) -> bool
-    ensures { IsTrue result ↔ (as_str (view id.now) ≡ Some text.now) }
-{
-    match id.as_str() {
-        Some(own) => own == text,
         None => false,
     }
 }

@@ -1,5 +1,5 @@
 //! Worked examples. Each is a function with an empty body, and its contract states the example.
-ghost use Rattle.hm_lsp_session.specs.Worked.{CancelRow, ChangesRow, DecisionsRow, FilesRow, FoldersRow};
+ghost use Rattle.hm_lsp_session.specs.Worked.{CancelRow, ChangesRow, DecisionsRow, FilesRow, FoldersRow, UnitsRow};
 
 /// What a server does with a message.
 #[tactic(auto, using(crate::proofs::WorkedDecisions::worked_decisions))]
@@ -24,4 +24,10 @@ pub fn worked_folders()
 #[tactic(auto, using(crate::proofs::WorkedCancels::worked_cancel))]
 pub fn worked_cancels()
     ensures { CancelRow }
+{}
+
+/// The units that a client offers.
+#[tactic(auto, using(crate::proofs::WorkedUnits::worked_units))]
+pub fn worked_units()
+    ensures { UnitsRow }
 {}

@@ -1,7 +1,7 @@
 //! Parameters of messages.
-ghost use Rattle.std.specs.Prelude.{◌≡◌, ◌++◌, IfNone, IfOk, IfSome, List, OnOk, Some, codes, map, string_bytes, ℕ, option_map, option_to_list};
+ghost use Rattle.std.specs.Prelude.{◌≡◌, ◌↔◌, ◌++◌, IfNone, IfOk, IfSome, IsTrue, List, OnOk, Some, codes, map, string_bytes, ℕ, option_map, option_to_list};
 ghost use Rattle.serde_json.specs.Data.{Items};
-ghost use Rattle.serde_json.specs.Find.{as_array};
+ghost use Rattle.serde_json.specs.Find.{as_array, as_str};
 ghost use Rattle.serde_json.specs.View.{items_view, view};
 ghost use Rattle.hm_lsp_positions.specs.declared.changes.Change.{Change};
 ghost use Rattle.hm_lsp_positions.specs.declared.changes.Range.{Range};
@@ -22,6 +22,16 @@ pub fn text_at<'v>(value: &'v Value, path: &str) -> Option<&'v str>
     match value.pointer(path) {
         Some(found) => found.as_str(),
         None => None,
+    }
+}
+
+/// Returns whether a value is this text.
+pub(crate) fn is_text(value: &Value, text: &str) -> bool
+    ensures { IsTrue result ↔ (as_str (view value.now) ≡ Some text.now) }
+{
+    match value.as_str() {
+        Some(own) => own == text,
+        None => false,
     }
 }
 

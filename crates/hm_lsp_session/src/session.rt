@@ -1,18 +1,19 @@
 //! A session: how far it is, the documents of the client, and what each message does.
-ghost use Rattle.std.specs.Prelude.{◌≡◌, [], None, Some, IfOk, IsSome, OnErr, codes, option_map};
-ghost use Rattle.serde_json.specs.Data.{Data};
+ghost use Rattle.std.specs.Prelude.{◌≡◌, [], None, Some, IfOk, IsSome, IsTrue, OnErr, codes, false, option_map};
+ghost use Rattle.serde_json.specs.Data.{Data, null};
 ghost use Rattle.serde_json.specs.Find.{get};
-ghost use Rattle.serde_json.specs.View.{view};
+ghost use Rattle.serde_json.specs.View.{items_view, view};
 ghost use Rattle.hm_lsp_session.specs.Documents.{listed, SameTexts};
 ghost use Rattle.hm_lsp_session.specs.Effects.{documents_of, encoding_of, HasBodyEffect, HasEffect, HasMessageEffect, HasNoChange, HasNoDocument, HasNoText, HasParamsEffect, IsAppliedTo, IsChanged, IsBodyHeard, IsClosed, IsHeard, IsIgnored, IsIgnoredIn, IsNotApplied, IsNothingOnlyFor, IsOpened, TextsAre};
 ghost use Rattle.hm_lsp_session.specs.Files.{AreFilesIn, AreFilesOf, AreFilesSaid, EndsAfter, IfBegun, IfEnded, IfFiles, IsBegin, IsBody, IsEnded, IsExit, watches_files};
 ghost use Rattle.hm_lsp_session.specs.Params.{changed_files};
 ghost use Rattle.hm_lsp_session.specs.Stages.{request_decision};
 ghost use Rattle.hm_lsp_session.specs.Steps.{stage_of, IsEdit, IsNews, IsStep};
+ghost use Rattle.hm_lsp_session.specs.Units.{capabilities_data, params_in, unit_name, HasText, HaveUnits, HaveUnitsAfter, IsAgreed, ListsUnits, OffersUnits, SaysUnits};
 ghost use Rattle.hm_lsp_session.specs.Replies.{method_of, AnswersRequest, IsAsked, IsLeft, IsLeftOf, IsReplyTo, RefusesMessage, Takes, TakesBody, TakesNotification, TakesOther};
 
 use crate::documents::Documents;
-use crate::params::{changes_in, files_in, text_at};
+use crate::params::{changes_in, files_in, is_text, text_at};
 use crate::replies::{refusal, reply};
 use crate::stages::{
     Decision, Method, Question, Refusal, Stage, notification_decision, request_decision,
@@ -63,18 +64,39 @@ fn offers(params: &Value, path: &str) -> bool {
     }
 }
 
-/// Returns the encoding of columns: UTF-8 if the client offers it, or else UTF-16, which each client has.
-fn offered_encoding(params: &Value) -> Encoding {
+/// Returns whether one of these values is a text.
+fn has_text(values: &[Value], text: &str) -> bool
+    ensures yes { IsTrue result → HasText text.now (items_view values.now) }
+    ensures no { result ≡ false → ¬ (HasText text.now (items_view values.now)) }
+{
+    'values: for value in values {
+        if is_text(value, text) {
+            return true;
+        }
+    }
+    false
+}
+
+/// Returns whether the client offers to count columns in bytes of UTF-8.
+fn offers_utf8(params: &Value) -> bool
+    ensures yes { IsTrue result → OffersUnits (codes "utf-8") (view params.now) }
+    ensures no { result ≡ false → ¬ (OffersUnits (codes "utf-8") (view params.now)) }
+{
     let Some(offered) = params.pointer("/capabilities/general/positionEncodings") else {
-        return Encoding::Utf16;
+        return false;
     };
     let Some(offered) = offered.as_array() else {
-        return Encoding::Utf16;
+        return false;
     };
-    'offers: for offer in offered {
-        if offer.as_str() == Some("utf-8") {
-            return Encoding::Utf8;
-        }
+    has_text(offered.as_slice(), "utf-8")
+}
+
+/// Returns the encoding of columns: UTF-8 if the client offers it, or else UTF-16, which each client has.
+fn offered_encoding(params: &Value) -> Encoding
+    ensures { IsAgreed (view params.now) result }
+{
+    if offers_utf8(params) {
+        return Encoding::Utf8;
     }
     Encoding::Utf16
 }
@@ -87,30 +109,56 @@ fn rename_provider(alloc: Global, params: &Value) -> Result<Value, AllocError> {
     Ok(Value::Bool(true))
 }
 
-/// Returns the result of `initialize`: the capabilities of the server.
-fn capabilities(alloc: Global, encoding: Encoding, params: &Value) -> Result<Value, AllocError> {
-    let encoding = match encoding {
+/// Returns the name of units.
+fn unit_name(encoding: Encoding) -> &'static str
+    ensures { result.now ≡ unit_name encoding }
+{
+    match encoding {
         Encoding::Utf8 => "utf-8",
         Encoding::Utf16 => "utf-16",
         Encoding::Utf32 => "utf-32",
-    };
-    let renames = rename_provider(alloc, params)?;
-    let completions = json!(in alloc; {"triggerCharacters": ["."]})?;
-    let (completions, renames) = (&completions, &renames);
-    let capabilities = json!(in alloc; {
+    }
+}
+
+/// Returns what the server does, with the name of its units.
+fn abilities(
+    alloc: Global,
+    units: &str,
+    completions: &Value,
+    renames: &Value,
+) -> Result<Value, AllocError>
+    ensures { IfOk result (λ made. view made ≡ capabilities_data units.now (view completions.now) (view renames.now)) }
+{
+    json!(in alloc; {
         "codeActionProvider": true,
         "completionProvider": completions,
         "definitionProvider": true,
         "documentHighlightProvider": true,
         "documentSymbolProvider": true,
         "hoverProvider": true,
-        "positionEncoding": encoding,
+        "positionEncoding": units,
         "referencesProvider": true,
         "renameProvider": renames,
         "textDocumentSync": {"change": 2, "openClose": true},
         "workspaceSymbolProvider": true
-    })?;
+    })
+}
+
+/// Returns the result of `initialize` with these capabilities.
+fn answer(alloc: Global, capabilities: &Value) -> Result<Value, AllocError>
+    ensures { IfOk result (λ made. get (codes "capabilities") (view made) ≡ Some (view capabilities.now)) }
+{
     json!(in alloc; {"capabilities": capabilities, "serverInfo": {"name": "hmc"}})
+}
+
+/// Returns the result of `initialize`: the capabilities of the server.
+fn capabilities(alloc: Global, encoding: Encoding, params: &Value) -> Result<Value, AllocError>
+    ensures { IfOk result (λ made. ListsUnits encoding (view made)) }
+{
+    let renames = rename_provider(alloc, params)?;
+    let completions = json!(in alloc; {"triggerCharacters": ["."]})?;
+    let capabilities = abilities(alloc, unit_name(encoding), &completions, &renames)?;
+    Ok(answer(alloc, &capabilities)?)
 }
 
 /// Returns the name of the method of a message.
@@ -179,6 +227,8 @@ impl Session {
         ensures stage { IfOk result (λ made. self.new.stage ≡ Stage.Ready) }
         ensures id { IfOk result (λ made. IsReplyTo (view id.now) (view made)) }
         ensures kept { self.new.documents ≡ self.old.documents }
+        ensures agreed { IfOk result (λ made. IsAgreed (view params.now) self.new.encoding) }
+        ensures said { IfOk result (λ made. SaysUnits self.new.encoding (view made)) }
     {
         let encoding = offered_encoding(params);
         let made = reply(self.alloc, id, capabilities(self.alloc, encoding, params)?)?;
@@ -193,6 +243,7 @@ impl Session {
         ensures stage { IfOk result (λ made. self.new.stage ≡ Stage.ShutDown) }
         ensures id { IfOk result (λ made. IsReplyTo (view id.now) (view made)) }
         ensures kept { self.new.documents ≡ self.old.documents }
+        ensures units { self.new.encoding ≡ self.old.encoding }
     {
         let made = reply(self.alloc, id, Value::Null)?;
         self.stage = Stage::ShutDown;
@@ -203,6 +254,7 @@ impl Session {
     fn open(&mut self, params: &Value) -> Result<Outcome, AllocError>
         ensures silent { IfOk result (λ out. TakesNotification out) }
         ensures stage { self.new.stage ≡ self.old.stage }
+        ensures units { self.new.encoding ≡ self.old.encoding }
         ensures edits { IfOk result (λ out. IsEdit out) }
         ensures texts { IfOk result (λ out. TextsAre out (IsOpened (view params.now) self.old.documents self.new.documents) self.old.documents self.new.documents) }
         ensures ignored { IfOk result (λ out. IsNothingOnlyFor (HasNoText (view params.now)) out) }
@@ -224,6 +276,7 @@ impl Session {
     fn apply(&mut self, uri: &str, version: i64, changes: &[Change]) -> Result<Outcome, AllocError>
         ensures silent { IfOk result (λ out. TakesNotification out) }
         ensures stage { self.new.stage ≡ self.old.stage }
+        ensures units { self.new.encoding ≡ self.old.encoding }
         ensures edits { IfOk result (λ out. IsEdit out) }
         ensures texts { IfOk result (λ out. TextsAre out (IsAppliedTo self.old.encoding uri.now changes.now self.old.documents self.new.documents) self.old.documents self.new.documents) }
         ensures ignored { IfOk result (λ out. IsNothingOnlyFor (IsNotApplied self.old.encoding uri.now changes.now self.old.documents) out) }
@@ -246,6 +299,7 @@ impl Session {
     fn change(&mut self, params: &Value) -> Result<Outcome, AllocError>
         ensures silent { IfOk result (λ out. TakesNotification out) }
         ensures stage { self.new.stage ≡ self.old.stage }
+        ensures units { self.new.encoding ≡ self.old.encoding }
         ensures edits { IfOk result (λ out. IsEdit out) }
         ensures texts { IfOk result (λ out. TextsAre out (IsChanged self.old.encoding (view params.now) self.old.documents self.new.documents) self.old.documents self.new.documents) }
         ensures ignored { IfOk result (λ out. IsNothingOnlyFor (HasNoChange self.old.encoding (view params.now) self.old.documents) out) }
@@ -267,6 +321,7 @@ impl Session {
     fn close(&mut self, params: &Value) -> Result<Outcome, AllocError>
         ensures silent { IfOk result (λ out. TakesNotification out) }
         ensures stage { self.new.stage ≡ self.old.stage }
+        ensures units { self.new.encoding ≡ self.old.encoding }
         ensures edits { IfOk result (λ out. IsEdit out) }
         ensures texts { IfOk result (λ out. TextsAre out (IsClosed (view params.now) self.old.documents self.new.documents) self.old.documents self.new.documents) }
         ensures ignored { IfOk result (λ out. IsNothingOnlyFor (HasNoDocument (view params.now) self.old.documents) out) }
@@ -287,6 +342,7 @@ impl Session {
     fn act(&mut self, method: Method, params: &Value) -> Result<Outcome, AllocError>
         ensures silent { IfOk result (λ out. TakesNotification out) }
         ensures stage { self.new.stage ≡ self.old.stage }
+        ensures units { self.new.encoding ≡ self.old.encoding }
         ensures news { IfOk result (λ out. IsNews out) }
         ensures texts { IfOk result (λ out. TextsAre out (HasEffect method (view params.now) self.old.encoding self.old.documents self.new.documents) self.old.documents self.new.documents) }
         ensures begun { IfOk result (λ out. IfBegun out (method ≡ Method.Initialized)) }
@@ -312,6 +368,16 @@ impl Session {
     }
 }
 
+/// Returns the parameters of a message, or another value if it has none.
+fn params_or<'a>(message: &'a Value, other: &'a Value) -> &'a Value
+    ensures { view other.now ≡ null → view result.now ≡ params_in (get (codes "params") (view message.now)) }
+{
+    match message.get("params") {
+        Some(params) => params,
+        None => other,
+    }
+}
+
 /// Returns whether a message without a method is a reply of the client.
 fn is_reply(message: &Value) -> bool {
     message.get("result").is_some() || message.get("error").is_some()
@@ -325,13 +391,14 @@ impl Session {
         ensures step { IfOk result (λ out. IsStep self.old.stage out self.new.stage) }
         ensures one { IfOk result (λ out. (id : Data) → get (codes "id") (view message) ≡ Some id → AnswersRequest (view message) id out) }
         ensures left { IfOk result (λ out. (q : Question) → method ≡ Method.Question q → IsAsked q (view message) out) }
+        ensures units { IfOk result (λ out. HaveUnits (view message) out self.old.stage self.new.stage self.old.encoding self.new.encoding) }
         ensures kept { self.new.documents ≡ self.old.documents }
     {
         let null = Value::Null;
         let Some(id) = message.get("id") else {
             return Ok(Outcome::Nothing);
         };
-        let params = message.get("params").unwrap_or(&null);
+        let params = params_or(&message, &null);
         match method {
             Method::Question(question) => Ok(Outcome::Ask(question, message)),
             Method::Initialize => Ok(Outcome::Reply(self.initialize(id, params)?)),
@@ -353,6 +420,7 @@ impl Session {
         ensures step { IfOk result (λ out. IsStep self.old.stage out self.new.stage) }
         ensures one { IfOk result (λ out. (id : Data) → get (codes "id") (view message) ≡ Some id → AnswersRequest (view message) id out) }
         ensures left { IfOk result (λ out. (q : Question) → self.old.stage ≡ Stage.Ready → method ≡ Method.Question q → IsAsked q (view message) out) }
+        ensures units { IfOk result (λ out. HaveUnits (view message) out self.old.stage self.new.stage self.old.encoding self.new.encoding) }
         ensures kept { self.new.documents ≡ self.old.documents }
     {
         let why = match request_decision(self.stage, method) {
@@ -372,6 +440,8 @@ impl Session {
         ensures silent { IfOk result (λ out. TakesNotification out) }
         ensures step { IfOk result (λ out. IsStep self.old.stage out self.new.stage) }
         ensures texts { IfOk result (λ out. TextsAre out (HasParamsEffect method (view message.now) self.old.encoding self.old.documents self.new.documents) self.old.documents self.new.documents) }
+        ensures stage { self.new.stage ≡ self.old.stage }
+        ensures units { self.new.encoding ≡ self.old.encoding }
         ensures begun { IfOk result (λ out. IfBegun out (method ≡ Method.Initialized)) }
         ensures files { IfOk result (λ out. IfFiles out (AreFilesIn method (view message.now))) }
         ensures ended { IfOk result (λ out. IfEnded out (method ≡ Method.Exit)) }
@@ -429,6 +499,7 @@ impl Session {
     fn take_message(&mut self, message: Value) -> Result<Outcome, AllocError>
         ensures step { IfOk result (λ out. IsStep self.old.stage out self.new.stage) }
         ensures texts { IfOk result (λ out. TextsAre out (HasMessageEffect (view message) self.old.encoding self.old.documents self.new.documents) self.old.documents self.new.documents) }
+        ensures units { IfOk result (λ out. HaveUnits (view message) out self.old.stage self.new.stage self.old.encoding self.new.encoding) }
         ensures begun { IfOk result (λ out. IfBegun out (IsBegin (view message))) }
         ensures files { IfOk result (λ out. IfFiles out (AreFilesSaid (view message))) }
         ensures ended { IfOk result (λ out. IfEnded out (IsExit (view message))) }
@@ -458,6 +529,7 @@ impl Session {
         ensures left { IfOk result (λ out. IsLeftOf body.now (stage_of self.old) out) }
         ensures step { IfOk result (λ out. IsStep (stage_of self.old) out (stage_of self.new)) }
         ensures texts { IfOk result (λ out. TextsAre out (HasBodyEffect body.now (encoding_of self.old) (documents_of self.old) (documents_of self.new)) (documents_of self.old) (documents_of self.new)) }
+        ensures units { IfOk result (λ out. HaveUnitsAfter body.now out (stage_of self.old) (stage_of self.new) (encoding_of self.old) (encoding_of self.new)) }
         ensures begun { IfOk result (λ out. IfBegun out (IsBody body.now IsBegin)) }
         ensures files { IfOk result (λ out. IfFiles out (λ uris. IsBody body.now (λ message. AreFilesSaid message uris))) }
         ensures ended { IfOk result (λ out. IfEnded out (IsBody body.now IsExit)) }

@@ -1,4 +1,7 @@
+use Rattle.std.proofs.Common.{◌∙◌, ap, sym}
+use Rattle.serde_json.specs.Read.{read}
 use Rattle.serde_json.specs.View.{view}
+use Rattle.hm_lsp_session.specs.Units.{understood}
 use Rattle.hm_lsp_session.proofs.Taking.{begun_of_body, files_of_body, left_of, taken, texts_of_body}
 use Rattle.hm_lsp_session.proofs.session.Session.take.Goals as goal
 
@@ -24,3 +27,6 @@ pub returns-in_ok-take_message-in-Ok-from_str-clause-files : goal.returns-in_ok-
 returns-in_ok-take_message-in-Ok-from_str-clause-files c =
     files_of_body c.args.body.now c.in-Ok.text.now (view c.in-Ok-from_str.message) c.in_ok-take_message-in-Ok-from_str.field-0 c.in-Ok.ensures.cases.0 c.in-Ok-from_str.ensures.ok
     c.in_ok-take_message-in-Ok-from_str.ensures.files
+
+pub returns-in_ok-take_message-in-Ok-from_str-clause-units : goal.returns-in_ok-take_message-in-Ok-from_str-clause-units
+returns-in_ok-take_message-in-Ok-from_str-clause-units c = understood (ap read (sym c.in-Ok.ensures.cases.0) ∙ c.in-Ok-from_str.ensures.ok) c.in_ok-take_message-in-Ok-from_str.ensures.units
