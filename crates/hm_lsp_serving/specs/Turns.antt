@@ -62,7 +62,7 @@ pub data HasServed (first : Server) : List ℕ → List Data → Server → List
   turn : {read earlier : List ℕ} (piece : List ℕ) {waited waits : List ℕ} {before now : Server} {sent said new : List Data} → HasServed first earlier said before waited → 0 < length piece → IsTurn (waited ++ piece) before now waits new → read ≡ earlier ++ piece → sent ≡ said ++ new
       → HasServed first read sent now waits
 
--- a session from its first turn to its end, with the exit status if the client ends it, and without one if what it is read from has ended
+-- a session from its first turn to its end. It has an exit status if the client ends it, and none if the input ends
 pub data IsSession (first : Server) (read : List ℕ) (sent : List Data) (status : Option ℕ) : Type 0 where
   input_ended : {now : Server} {waits : List ℕ} → HasServed first read sent now waits → status ≡ None → IsSession first read sent status
   ended : {earlier : List ℕ} (piece : List ℕ) {waits : List ℕ} {now : Server} {said new : List Data} {own : ℕ} → HasServed first earlier said now waits → 0 < length piece → IsLastTurn (waits ++ piece) now new own → status ≡ Some own
