@@ -1,4 +1,4 @@
--- The steps of a turn, as the code takes them.
+-- What the parts of a turn promise.
 use Rattle.std.specs.Prelude.{◌≡◌, ℕ, List, Option, None, Some}
 use Rattle.serde_json.specs.Data.{Data}
 use Rattle.hm_lsp_frames.specs.Frames.{Item}

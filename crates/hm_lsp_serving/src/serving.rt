@@ -14,7 +14,7 @@ use std::io::{Read, Write};
 use std::sync::Wait;
 use std::thread::Threads;
 
-/// A client: what it says is read, and what is said to it is written.
+/// A client. Its messages are read from `reader`, and the messages for it are written to `writer`.
 #[derive(Drop)]
 pub struct Client<R, W> {
     pub reader: R,
