@@ -87,8 +87,8 @@ pub mod store {
 /// Builds by several threads, and runs from readers to a writer.
 pub mod build {
     pub use hm_build::{
-        BuildFault, Finished, Gate, MessageOptions, Open, Options, Outputs, RunOptions, build,
-        journal_text, report, run, run_with_messages,
+        BuildFault, Earlier, Finished, Gate, MessageOptions, Open, Options, Outputs, RunOptions,
+        build, build_after, journal_text, report, run, run_with_messages,
     };
     pub use hm_build_place_runs::{AskedPlace, PlaceFormat, PlaceQuestion, run_place};
     pub use hm_messages::MessageFormat;

@@ -81,6 +81,30 @@ verdict_field_send = search (interface_send, interface_sync, Fault.the_send, cro
 pub outcome_send : IsSend Outcome.the_row
 outcome_send = search (interface_send, interface_sync, module_send, module_sync, verdict_field_send, crosses, sendable) depth 30 fits 5000
 
+pub verdict_field_sync : IsSync Verdict.the_field.row
+verdict_field_sync = search (interface_send, interface_sync, Fault.the_sync, crosses, sendable) depth 30 fits 5000
+
+pub outcome_sync : IsSync Outcome.the_row
+outcome_sync = search (interface_send, interface_sync, module_send, module_sync, verdict_field_sync, crosses, sendable) depth 30 fits 5000
+
+pub act_field_sync : IsSync Act.the_field.row
+act_field_sync = search (interface_send, interface_sync, crosses, sendable) depth 30 fits 5000
+
+pub call_field_sync : IsSync Call.the_field.row
+call_field_sync = search (act_field_sync, crosses, sendable) depth 30 fits 5000
+
+pub record_field_sync : IsSync Record.the_field.row
+record_field_sync = search (call_field_sync, crosses, sendable) depth 30 fits 5000
+
+pub records_field_sync : IsSync Records.the_field.row
+records_field_sync = search (record_field_sync, crosses, sendable) depth 30 fits 5000
+
+pub store_sync : IsSync Store.the_row
+store_sync = search (outcome_sync, module_send, module_sync, Entry.the_field_sync, Status.the_field_sync, crosses, sendable) depth 30 fits 5000
+
+pub finished_sync : IsSync Finished.the_row
+finished_sync = search (store_sync, records_field_sync, crosses, sendable) depth 30 fits 5000
+
 pub act_field_send : IsSend Act.the_field.row
 act_field_send = search (interface_send, interface_sync, crosses, sendable) depth 30 fits 5000
 
@@ -154,7 +178,7 @@ module _ (L : RattleType) (l : Ghosts L.Denot) (j : Names L.Denot) (send : IsSen
                 search (module_send, module_sync, crosses, sendable) depth 30 fits 5000,
                 (
                   search (crosses, sendable) depth 30,
-                  (search (gate, sendable) depth 30, (search (crosses, sendable) depth 30, (search (prelude_sync, sendable) depth 30, tt))),
+                  (search (gate, sendable) depth 30, (search (crosses, sendable) depth 30, (search (prelude_sync, sendable) depth 30, (search (outcome_sync, crosses, sendable) depth 30 fits 5000, tt)))),
                 ),
               ),
             ),

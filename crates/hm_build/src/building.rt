@@ -1,6 +1,7 @@
 //! Builds the modules of sources. Each worker checks a module for the published interfaces of its imports.
-ghost use Rattle.std.specs.Prelude.{◌≡◌, ◌⊎◌, ◌↔◌, ◌<◌, ◌≤◌, ◌^◌, ℕ, List, [], IfErr, IfOk, IsErrOf, length, map, min};
+ghost use Rattle.std.specs.Prelude.{◌≡◌, ◌⊎◌, ◌↔◌, ◌<◌, ◌≤◌, ◌^◌, ℕ, List, [], All, IfErr, IfOk, IsErrOf, length, map, min};
 ghost use Rattle.std.specs.Arc.{arc_value};
+ghost use Rattle.hm_build_earlier.specs.Earlier.{IsOfTexts};
 ghost use Rattle.hm_build_stages.specs.Errors.{IsBuildError, IsBuildFault};
 ghost use Rattle.hm_build_reports.specs.FinishedBuilds.{IsFinished};
 ghost use Rattle.hm_store_shared.specs.Gathered.{records_in, written_in};
@@ -11,10 +12,11 @@ ghost use Rattle.hm_run_sources.specs.SourceModules.{AreModulesOf};
 
 use crate::limits::type_limits;
 use crate::workers::{Work, build_fault, run_workers};
-use crate::{BuildFault, Finished, Gate};
+use crate::{BuildFault, Finished, Gate, Open};
 use core::thread::Stack;
+use hm_build_earlier::{Earlier, named_outcomes, read_after};
 use hm_build_reports::may_work;
-use hm_build_stages::{Fresh, finished, read, room_for};
+use hm_build_stages::{Fresh, finished, room_for};
 use hm_run_parallel_parse::Pool;
 use hm_run_sources::Nesting;
 use hm_store::laws::settled_builds_are_settled_sets;
@@ -35,6 +37,8 @@ use std::thread::{Promise, Threads};
 pub(crate) struct Task<'a, G: Gate> {
     pub workers: usize,
     pub gate: &'a G,
+    /// Builds from which this one takes what hasn't changed.
+    pub earlier: &'a [Earlier<'a>],
     /// How deep the sources nest. Stacks and the limits of types depend on it.
     pub nesting: Nesting,
 }
@@ -76,6 +80,7 @@ fn worked<L: Ledger + Naming + Send + Sync, G: Gate + Sync, R: Threads + Wait + 
     let workers = task.workers;
     let room = room_for(imports.as_slice())?;
     let crew = Crew { workers, room };
+    let earlier = named_outcomes(alloc, task.earlier, modules.as_slice())?;
     let (shared, passes) = Shared::<L, &R>::new(alloc, rt, store, crew, brands)?;
     let work = Work {
         alloc,
@@ -85,6 +90,7 @@ fn worked<L: Ledger + Naming + Send + Sync, G: Gate + Sync, R: Threads + Wait + 
         gate: task.gate,
         limits: type_limits(task.nesting, modules.len()),
         prelude: &prelude,
+        earlier: earlier.as_slice(),
     };
     let stack = task.nesting.worker_stack_size();
     let (passes, ended) = run_workers(rt, &work, passes, stack);
@@ -104,7 +110,8 @@ pub(crate) fn build_here<T: Threads + Wait + Sync, G: Gate + Sync>(
     sources: &[Vec<u8>],
     task: Task<'_, G>,
 ) -> Result<Finished, BuildFault>
-    requires { (0 < task.workers) × (task.workers ≤ 16) }
+    requires workers { (0 < task.workers) × (task.workers ≤ 16) }
+    requires earlier { All IsOfTexts task.earlier.now }
     ensures finished { IfOk result (λ f. IsFinished (map (λ s. s.items) sources.now) task.entry.workers f.store (records_in f.records)) }
     ensures counted { IfOk result (λ f. AreCountedModules (map (λ s. s.items) sources.now) f.store.modules f.counts.items) }
     ensures written { IfOk result (λ f. written_in (records_in f.records) ≡ length f.store.journal) }
@@ -120,7 +127,7 @@ pub(crate) fn build_here<T: Threads + Wait + Sync, G: Gate + Sync>(
         threads: task.workers,
         stack: task.nesting.stack_size(),
     };
-    let fresh = read(rt, alloc, sources, pool)?;
+    let fresh = read_after(rt, alloc, sources, task.earlier, pool)?;
     let brands = Brands {
         blank: Blank::new(task.workers as u64),
         opened: Opened::new(),
@@ -185,6 +192,7 @@ fn build_on_thread<T: Threads + Wait + Sync, G: Gate + Sync>(
                 let task = Task {
                     workers,
                     gate,
+                    earlier: &[],
                     nesting,
                 };
                 build_here(rt, alloc, &sources, task)
@@ -231,4 +239,47 @@ pub fn build<T: Threads + Wait + Sync, G: Gate + Sync>(
         return Err(BuildFault::Workers);
     }
     build_on_thread(rt, alloc, sources, workers, gate)
+}
+
+// Why: docs/DECISIONS.md, "Earlier checks".
+/// Does what `build` does with an open gate, and takes from earlier builds what hasn't changed: the modules of sources with equal texts, and the
+/// outcomes of good modules that are equal and have equal interfaces of their imports. The result is the same; an unchanged module takes the time of
+/// a comparison.
+///
+/// It works on this thread, whose stack must be as large as `Nesting` says for the sources.
+///
+/// # Errors
+///
+/// Those of `build`.
+pub fn build_after<T: Threads + Wait + Sync>(
+    rt: &T,
+    alloc: Global,
+    sources: &[Vec<u8>],
+    earlier: &[Earlier<'_>],
+    workers: usize,
+) -> Result<Finished, BuildFault>
+    requires { All IsOfTexts earlier.now }
+    // The journal is legal, settles each module, and agrees with the record of each worker.
+    ensures finished { IfOk result (λ f. IsFinished (map (λ s. s.items) sources.now) workers f.store (records_in f.records)) }
+    // Each source has its number of modules.
+    ensures counted { IfOk result (λ f. AreCountedModules (map (λ s. s.items) sources.now) f.store.modules f.counts.items) }
+    // The journal has as many entries as the recorded calls of the workers wrote.
+    ensures written { IfOk result (λ f. written_in (records_in f.records) ≡ length f.store.journal) }
+    // Each module has the verdict that the rules give it in its set.
+    ensures verdicts { IfOk result (λ f. HasVerdicts f.store) }
+    // The number of workers is checked before any source is read.
+    ensures workers { IsErrOf result BuildFault.Workers ↔ ((workers ≡ 0) ⊎ (16 < workers)) }
+    // If the sources are refused, this is their first fault.
+    ensures refused { IfErr result (IsBuildFault (map (λ s. s.items) sources.now)) }
+{
+    if !may_work(workers) {
+        return Err(BuildFault::Workers);
+    }
+    let task = Task {
+        workers,
+        gate: &Open,
+        earlier,
+        nesting: Nesting::of(sources),
+    };
+    build_here(rt, alloc, sources, task)
 }

@@ -15,8 +15,9 @@ mod runs_with_messages;
 mod stacks;
 mod workers;
 
-pub use building::build;
+pub use building::{build, build_after};
 pub use gate::{Gate, Open};
+pub use hm_build_earlier::Earlier;
 pub use hm_build_messages::MessageOptions;
 pub use hm_build_output::{Options, RunOptions};
 pub use hm_build_stages::{BuildFault, Finished, journal_text, report};

@@ -80,6 +80,7 @@ pub(crate) fn build_output<'a, T: Threads + Wait + Sync>(
     let task = Task {
         workers,
         gate: &Open,
+        earlier: &[],
         nesting,
     };
     match build_here(rt, alloc, sources, task) {

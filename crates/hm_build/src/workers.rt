@@ -1,6 +1,7 @@
 //! The workers of a build, which claim modules and check them.
 ghost use Rattle.std.specs.Prelude.{◌≡◌, ◌≢◌, ◌<◌, ◌≤◌, ◌+◌, ◌⊎◌, ◌↔◌, [], All, IfErr, IfOk, IsErrOf, IsOk, length, map, slice_index_or, vec_len};
 ghost use Rattle.std.specs.Arc.{arc_value};
+ghost use Rattle.hm_check.specs.Refusals.{IsRefused};
 ghost use Rattle.hm_store_published.specs.Publications.{IsLawful};
 ghost use Rattle.hm_store.specs.declared.object.Refusal.TheVariants.{NotYours, Stranger};
 ghost use Rattle.hm_store.specs.declared.object.Turn.TheVariants.{Job};
@@ -10,6 +11,7 @@ ghost use Rattle.hm_store_shared.specs.Passes.{known_of, room_of, seen_of, worke
 ghost use Rattle.hm_build.specs.Workers.{HasRoomIn, IsWorkError, IsWorkOf, calls_of};
 
 use crate::{BuildFault, Gate};
+use hm_build_earlier::outcome_from;
 use hm_check::{CheckFault, check_module_within};
 use hm_names::TypeLimits;
 use hm_run_sources::{SourceModule, source_of};
@@ -18,6 +20,7 @@ use hm_store_published::{LookFault, Naming, Published, Step};
 use hm_store_shared::laws::{claims_fit_the_room, replies_are_known, seen_imports_are_asked_for};
 use hm_store_shared::{Pass, Shared};
 use hm_syntax::Module;
+use hm_types::Interface;
 use hm_types_prelude::SharedPrelude;
 use hm_verdicts::Outcome;
 use left_right::Absorb;
@@ -122,6 +125,8 @@ where
     /// The limits for the types of a module.
     pub limits: TypeLimits,
     pub prelude: &'a SharedPrelude,
+    /// For each module, the outcomes that earlier builds have for modules of its name. No rows if there is no earlier build.
+    pub earlier: &'a [Vec<&'a Outcome>],
 }
 
 // Why: docs/DECISIONS.md, "Mixed".
@@ -168,6 +173,26 @@ fn settle<L: Ledger + Naming, G: Gate, W: Wait + Drop, R: Wait>(
     }
 }
 
+// Why: docs/DECISIONS.md, "Earlier checks".
+/// Returns the outcome of the module with this number for the interfaces of its imports: one that an earlier build has, or else that of a check.
+fn outcome_of<L: Ledger + Naming, G: Gate, W: Wait + Drop>(
+    work: &Work<'_, L, G, W>,
+    number: usize,
+    module: &Arc<Module>,
+    imports: &[Arc<Interface>],
+) -> Result<Outcome, CheckFault>
+    ensures refused { IfErr result (IsRefused (arc_value «module».now) (map arc_value imports.now)) }
+    ensures module { IfOk result (λ o. o.«module» ≡ arc_value «module».now) }
+    ensures imports { IfOk result (λ o. o.imports ≡ map arc_value imports.now) }
+{
+    if let Some(outcomes) = work.earlier.get(number) {
+        if let Some(outcome) = outcome_from(work.alloc, outcomes.as_slice(), module, imports)? {
+            return Ok(outcome);
+        }
+    }
+    Ok(check_module_within(work.alloc, work.prelude, module, imports, work.limits)?)
+}
+
 // Why: docs/DECISIONS.md, "Workers' contracts".
 /// Checks a claimed module. The pass has seen all its imports, so each look finds one, and they are those that the module requires.
 /// Takes a call for each import and one more.
@@ -195,13 +220,7 @@ fn check_one<L: Ledger + Naming, G: Gate, W: Wait + Drop, R: Wait>(
         Err(LookFault::Memory) => return Err(WorkFault::Memory),
     };
     work.gate.enter(pass.worker(), number);
-    match check_module_within(
-        work.alloc,
-        work.prelude,
-        &work.modules[number],
-        interfaces.as_slice(),
-        work.limits,
-    ) {
+    match outcome_of(work, number, &work.modules[number], interfaces.as_slice()) {
         Ok(outcome) => settle(rt, work, pass, number, outcome),
         Err(CheckFault::Memory) => Err(WorkFault::Exhausted(number)),
         Err(CheckFault::Imports) => unreachable!(),

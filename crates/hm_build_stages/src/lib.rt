@@ -12,5 +12,5 @@ pub use dropping::drop_by_threads;
 pub use faults::BuildFault;
 pub use finished_build::Finished;
 pub use finishing::finished;
-pub use setting_up::{Fresh, read, room_for};
+pub use setting_up::{Fresh, read, room_for, with_store};
 pub use texts::{journal_text, report};

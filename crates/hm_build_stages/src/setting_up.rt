@@ -67,6 +67,33 @@ fn import_rows(alloc: Global, plan: &Plan) -> Result<Vec<Vec<usize>>, AllocError
     Ok(rows)
 }
 
+/// Returns a store for these modules of a lawful set, with their plan and the number of modules of each source.
+pub fn with_store(
+    alloc: Global,
+    modules: Vec<Arc<Module>>,
+    plan: Plan,
+    counts: Vec<usize>,
+) -> Result<Fresh, AllocError>
+    requires lawful { IsLawful (module_outlines (map arc_value modules.items)) }
+    requires planned { IsImportPlan (module_outlines (map arc_value modules.items)) plan }
+    ensures modules { IfOk result (λ f. map arc_value f.modules.items ≡ map arc_value modules.items) }
+    ensures counts { IfOk result (λ f. f.counts.items ≡ counts.items) }
+    ensures same { IfOk result (λ f. map arc_value f.modules.items ≡ f.store.modules) }
+    ensures imports { IfOk result (λ f. map (λ row. row.items) f.imports.items ≡ f.store.given.imports) }
+    ensures empty { IfOk result (λ f. f.store.journal ≡ []) }
+{
+    let prelude = SharedPrelude::new(alloc)?;
+    let imports = import_rows(alloc, &plan)?;
+    let store = Store::new(alloc, lend_all(alloc, modules.as_slice())?, plan)?;
+    Ok(Fresh {
+        modules,
+        imports,
+        counts,
+        store,
+        prelude,
+    })
+}
+
 /// Returns a store for the modules of a lawful set.
 fn set_up(alloc: Global, set: PlannedModules) -> Result<Fresh, AllocError>
     requires lawful { IsLawful (module_outlines set.modules.items) }
@@ -82,17 +109,8 @@ fn set_up(alloc: Global, set: PlannedModules) -> Result<Fresh, AllocError>
         plan,
         counts,
     } = set;
-    let prelude = SharedPrelude::new(alloc)?;
     let modules = shared_modules(alloc, modules)?;
-    let imports = import_rows(alloc, &plan)?;
-    let store = Store::new(alloc, lend_all(alloc, modules.as_slice())?, plan)?;
-    Ok(Fresh {
-        modules,
-        imports,
-        counts,
-        store,
-        prelude,
-    })
+    Ok(with_store(alloc, modules, plan, counts)?)
 }
 
 /// Lexes and parses sources with a pool of threads, and returns a store for their modules.

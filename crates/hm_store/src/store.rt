@@ -187,6 +187,14 @@ impl Store {
         Some(self.outcomes[number].as_ref()?.verdict())
     }
 
+    /// Returns the outcome of a module, or `None` if it is neither published nor failed.
+    pub fn outcome(&self, number: usize) -> Option<&Outcome>
+        requires { number < length self.now.modules }
+        ensures { option_map (λ o. o.now) result ≡ kept_at self.now.kept number }
+    {
+        self.outcomes[number].as_ref()
+    }
+
     // Why: docs/DECISIONS.md, "Ready modules".
     /// Claims the least waiting module whose imports are all published.
     pub fn claim(&mut self, worker: usize) -> Claimed

@@ -55,7 +55,7 @@ settle-requires-clause-fits g c =
     let found : some_of (map arc_value c.in-Ok.interfaces.items) ≡ map (interface_in before) planned = map_twice arc_value (λ f. Some f) c.in-Ok.interfaces.items ∙ (c.in-Ok.ensures.reply ∙ ap (map _) row) in
     let published : All (IsPublishedIn before) planned = published_in_row g.L.Naming.plan n planned before c.requires.imports refl in
     let later : map (interface_in before) planned ≡ map (interface_in after) planned = rows_through before after c.look_at_all.ensures.list planned published in
-    let out = c.in-Ok-check_module_within.ensures in
+    let out = c.in-Ok-outcome_of.ensures in
     record {
       subject = sym (ap (λ ms. slice_get ms n) c.requires.work.modules_are) ∙ (got_at arc_value modules n c.index-work-number-2.result inside ∙ ap (λ m. Some m) (sym out.module));
       imports = ap some_of (out.imports ∙ ap (map arc_value) c.as_slice.ensures.value) ∙ (found ∙ later);

@@ -1,0 +1,2 @@
+pub mod CountedParts
+pub mod Worked
