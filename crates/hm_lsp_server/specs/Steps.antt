@@ -6,19 +6,21 @@ use Rattle.hm_lsp_session.specs.Files.{AreFilesSaid, EndsAfter, IfBegun, IfEnded
 use Rattle.hm_lsp_session.specs.Replies.{IsLeftOf, TakesBody}
 use Rattle.hm_lsp_session.specs.Steps.{IsStep, stage_of}
 use Rattle.hm_lsp_session.specs.Units.{HaveUnitsAfter}
+use Rattle.hm_lsp_session.specs.Watching.{WatchesAfter}
 use Rattle.hm_lsp_session.specs.declared.session.Outcome.{Outcome}
 use Rattle.hm_lsp_session.specs.declared.session.Outcome.TheVariants.{Ask, Begun, Changed, Ended, Files, Nothing, Reply}
 use Rattle.hm_lsp_session.specs.declared.session.Session.{Session}
 use Rattle.hm_lsp_server.specs.declared.taken.Taken.{Taken}
 use Rattle.hm_lsp_server.specs.declared.taken.Taken.TheVariants.{Ended as TakenEnded, Files as TakenFiles, Nothing as TakenNothing, Reply as TakenReply, Request as TakenRequest}
 
--- all that a session promises of a body and of its outcome: how far it is, the texts of its documents, the units of columns, and why the outcome is this one
+-- all that a session promises of a body and of its outcome: how far it is, the texts of its documents, the units of columns, whether the client watches files, and why the outcome is this one
 pub record IsSessionStep (body : List ℕ) (before after : Session) (outcome : Outcome) : Type 0 where
   pub takes : TakesBody body outcome
   pub left : IsLeftOf body (stage_of before) outcome
   pub step : IsStep (stage_of before) outcome (stage_of after)
   pub texts : TextsAre outcome (HasBodyEffect body (encoding_of before) (documents_of before) (documents_of after)) (documents_of before) (documents_of after)
   pub units : HaveUnitsAfter body outcome (stage_of before) (stage_of after) (encoding_of before) (encoding_of after)
+  pub watches : WatchesAfter body (stage_of before) (stage_of after) (watches_files before) (watches_files after)
   pub begun : IfBegun outcome (IsBody body IsBegin)
   pub files : IfFiles outcome (λ uris. IsBody body (λ message. AreFilesSaid message uris))
   pub ended : IfEnded outcome (IsBody body IsExit)

@@ -22,13 +22,13 @@ ghost use Rattle.hm_lsp_server.specs.Taken.{IsTakenFrom, replies_in};
 ghost use Rattle.hm_lsp_server.specs.Steps.{IsSteppedBy};
 ghost use Rattle.hm_lsp_server.specs.Servers.{HasFiles, IsCurrent, IsFileNoted, IsFollowing, IsNoted, IsOrderly, checked_of, documents_in, good_of, held_of, is_changed, session_of, sources_of};
 
-use crate::second::{SecondCheck, WORKERS, check_again, said_by};
+use crate::second::{Checks, SecondCheck, check_after, check_again, checked_in, said_by};
 use crate::taken::{Taken, registration};
 use crate::telling::{Telling, tell};
 use hm_lsp_results::{Asked, failure, replied};
 use hm_lsp_session::{Outcome, Question, Session, Stage, notice};
 use hm_lsp_sources::{Sources, uri_of};
-use hm_service::{Checked, ServiceFault, check};
+use hm_service::{Checked, ServiceFault};
 use hm_service_stand_ins::good_texts;
 use serde_json::{Value, json};
 use std::alloc::{AllocError, Global};
@@ -71,6 +71,10 @@ pub struct Server {
     good: Vec<Option<Vec<u8>>>,
     /// The last check, unless the texts have changed since.
     checked: Option<Checked>,
+    /// The check of the texts before these, if there was one.
+    last: Option<Checked>,
+    /// The last second check, if the last diagnostics needed one.
+    second: Option<Checked>,
     /// Whether the check of these texts failed. It isn't tried again before they change.
     has_failed: bool,
     /// Whether the texts have changed since the diagnostics were sent.
@@ -100,6 +104,8 @@ impl Server {
             shown: Vec::new(alloc),
             good: Vec::new(alloc),
             checked: None,
+            last: None,
+            second: None,
             has_failed: false,
             is_changed: true,
         })
@@ -113,7 +119,7 @@ impl Server {
         self.session.stage() == Stage::New
     }
 
-    /// Forgets the check, because a text or a URI is another.
+    /// Makes the check that of the texts before these, because a text or a URI is another.
     fn forget(&mut self)
         ensures checked { checked_of self.new ≡ None }
         ensures sources { self.new.sources ≡ self.old.sources }
@@ -122,13 +128,13 @@ impl Server {
         ensures session { self.new.session ≡ self.old.session }
         ensures changed { is_changed self.new ≡ true }
     {
-        self.checked = None;
+        self.last = self.checked.take().or(self.last.take());
         self.has_failed = false;
         self.is_changed = true;
     }
 
     // Why: docs/DECISIONS.md, "Bursts".
-    /// Lets the sources follow the client's documents. If a text or a URI is another, the check is forgotten.
+    /// Lets the sources follow the client's documents. If a text or a URI is another, there is no check of these texts any more.
     fn follow<T: Threads>(&mut self, rt: &T) -> Result<(), AllocError>
         requires current { IsCurrent self.old }
         requires followed { (documents : List Document) × IsFollowing documents self.old }
@@ -148,7 +154,7 @@ impl Server {
     }
 
     // Why: docs/DECISIONS.md, "Checks that fail".
-    /// Checks the texts, unless that was tried.
+    /// Checks the texts, unless that was tried. What hasn't changed since the last checks is taken from them.
     fn refresh<T: Threads + Wait + Sync>(&mut self, rt: &T)
         requires { IsCurrent self.old }
         ensures current { IsCurrent self.new }
@@ -161,7 +167,8 @@ impl Server {
         if self.checked.is_some() || self.has_failed {
             return;
         }
-        match check(rt, self.alloc, self.sources.held(), WORKERS) {
+        let earlier = [self.last.as_ref(), self.second.as_ref()];
+        match check_after(rt, self.alloc, self.sources.held(), &earlier) {
             Ok(checked) => self.checked = Some(checked),
             Err(_) => self.has_failed = true,
         }
@@ -349,7 +356,12 @@ impl Server {
     {
         let held = self.sources.held();
         let good = self.good.as_slice();
-        Ok(check_again(rt, self.alloc, held, checked, good)?)
+        let checks = Checks {
+            first: checked,
+            last: self.last.as_ref(),
+            second: self.second.as_ref(),
+        };
+        Ok(check_again(rt, self.alloc, held, &checks, good)?)
     }
 
     /// Adds the diagnostics of all sources by the checks of these texts, and the message that one failed.
@@ -367,7 +379,11 @@ impl Server {
             return Ok(());
         };
         match self.second(rt, checked) {
-            Ok(second) => Ok(self.tell_both(&second, sent)?),
+            Ok(second) => {
+                self.tell_both(&second, sent)?;
+                self.second = checked_in(second);
+                Ok(())
+            }
             Err(_) => {
                 sent.push(no_check(self.alloc)?)?;
                 Ok(self.tell_both(&None, sent)?)

@@ -2,6 +2,7 @@
 ghost use Rattle.std.specs.Prelude.{◌≡◌, ◌⊎◌, ◌<◌, IfOk, IsErrOf};
 ghost use Rattle.hm_service.specs.Checks.{IsHeldCheck};
 
+use crate::earlier::Checks;
 use crate::stacks::check_on_thread;
 use hm_build_reports::may_work;
 use hm_service_places::{Checked, ServiceFault};
@@ -11,7 +12,8 @@ use std::sync::Wait;
 use std::thread::Threads;
 
 // Why: docs/DECISIONS.md, "Three runs".
-/// Checks a held set with the given number of workers.
+/// Checks a held set with the given number of workers. What hasn't changed since the earlier checks is taken from them: the trees of equal sources, and
+/// the verdicts of good modules whose imports have equal interfaces.
 ///
 /// # Errors
 ///
@@ -22,6 +24,7 @@ pub fn check<T: Threads + Wait + Sync>(
     rt: &T,
     alloc: Global,
     held: &[HeldSource],
+    earlier: &[&Checked],
     workers: usize,
 ) -> Result<Checked, ServiceFault>
     ensures ok { IfOk result (IsHeldCheck workers held.now) }
@@ -31,6 +34,7 @@ pub fn check<T: Threads + Wait + Sync>(
         return Err(ServiceFault::Workers);
     }
     let texts = held_texts(alloc, held)?;
-    let checked = check_on_thread(rt, alloc, texts, workers)?;
+    let earlier = Checks { all: earlier };
+    let checked = check_on_thread(rt, alloc, texts, &earlier, workers)?;
     Ok(checked)
 }

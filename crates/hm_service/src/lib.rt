@@ -4,6 +4,7 @@
 #![tactic(auto)]
 
 mod checking;
+mod earlier;
 mod faults;
 mod here;
 mod stacks;

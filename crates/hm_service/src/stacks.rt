@@ -2,6 +2,7 @@
 ghost use Rattle.std.specs.Prelude.{◌≡◌, ◌<◌, ◌≤◌, IfErr, IfOk, map};
 ghost use Rattle.hm_service.specs.Checks.{IsCheckOf};
 
+use crate::earlier::EarlierChecks;
 use crate::here::check_here;
 use core::thread::Stack;
 use hm_run_sources::Nesting;
@@ -35,10 +36,11 @@ fn stack_for(held: &HeldTexts) -> usize {
 }
 
 /// Returns what `check_here` returns, from a new thread with a large stack.
-pub(crate) fn check_on_thread<T: Threads + Wait + Sync>(
+pub(crate) fn check_on_thread<T: Threads + Wait + Sync, E: EarlierChecks + Sync>(
     rt: &T,
     alloc: Global,
     held: HeldTexts,
+    earlier: &E,
     workers: usize,
 ) -> Result<Checked, ServiceFault>
     requires { (0 < workers) × (workers ≤ 16) }
@@ -58,7 +60,7 @@ pub(crate) fn check_on_thread<T: Threads + Wait + Sync>(
             let thread = Stack::new().stack_size(stack_for(&held));
             let work = move ||
                 requires { (0 < workers) × (workers ≤ 16) }
-            { check_here(rt, alloc, &held, workers) };
+            { check_here(rt, alloc, &held, earlier, workers) };
             match thread.spawn_scoped_with(scope, promise, work) {
                 Ok(checker) => checker.join(rt),
                 Err(_) => Err(ServiceFault::NoWorker),

@@ -78,7 +78,7 @@ fn is_fix<T: Threads + Wait + Sync>(
         return Ok(false);
     };
     let held = changed_set(rt, alloc, set.held, source, made.text.as_slice())?;
-    let checked = check(rt, alloc, held.as_slice(), set.workers)?;
+    let checked = check(rt, alloc, held.as_slice(), &[set.checked], set.workers)?;
     let change = change_for(source, candidate.fault, place, &made);
     Ok(is_shown(alloc, set, held.as_slice(), &checked, &change)?)
 }

@@ -1,3 +1,4 @@
 pub mod Names
 pub mod Diagnostics
 pub mod Places
+pub mod Spelling

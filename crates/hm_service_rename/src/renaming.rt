@@ -69,7 +69,7 @@ fn is_accepted<T: Threads + Wait + Sync>(
 ) -> Result<bool, ServiceFault>
     ensures { IfOk result (λ accepted. IsTrue accepted → IsAccepted set.now held.now rename.now) }
 {
-    let after = check(rt, alloc, held, set.workers)?;
+    let after = check(rt, alloc, held, &[set.checked], set.workers)?;
     if !is_as_good(alloc, set.checked, &after)? {
         return Ok(false);
     }

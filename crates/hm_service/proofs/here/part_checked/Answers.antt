@@ -15,7 +15,7 @@ use Rattle.hm_service.proofs.here.part_checked.Goals as goal
 
 pub checkable-requires : goal.checkable-requires
 checkable-requires g c =
-    let held = c.args.held.now in
+    let held = c.args.given.now.held.now in
     let refused = c.args.refused in
     let standing = map (λ (s : Vec ℕ Global). s.items) held.standing.items in
     let set : c.is_of_plan.result ≡ true = search rules in
@@ -31,9 +31,9 @@ texts_at-requires g c =
 
 pub returns : goal.returns
 returns g c =
-    let held = c.args.held.now in
+    let held = c.args.given.now.held.now in
     let refused = c.args.refused in
-    let workers = c.args.workers in
+    let workers = c.args.given.now.workers in
     let standing = map (λ (s : Vec ℕ Global). s.items) held.standing.items in
     let part = c.in_ok-part.part in
     let texts = c.in_ok-texts.texts in
@@ -61,5 +61,5 @@ returns g c =
     let finished : IsFinished (items texts.items) workers build.store (records_in build.records) = subst (λ (ts : List (Vec ℕ Global)). IsFinished (items ts) workers build.store (records_in build.records)) c.as_slice-4.ensures.value c.in-Ok.ensures.finished in
     let counted : AreCountedModules (items texts.items) build.store.modules build.counts.items = subst (λ (ts : List (Vec ℕ Global)). AreCountedModules (items ts) build.store.modules build.counts.items) c.as_slice-4.ensures.value c.in-Ok.ensures.counted in
     part_check workers held.unread.items (items held.texts.items) standing
-    (record { part = part; texts = texts; unread = c.args.unread; refused = Some why; told = told; build = build }) c.requires.unread run c.in-Ok.ensures.verdicts numbers.items why refused.located.items refl all reason located
+    (record { part = part; texts = texts; unread = c.args.unread; refused = Some why; told = told; build = build; spelled = c.of-spelled.result; counted = c.result-1.given.0 }) c.requires.unread run c.in-Ok.ensures.verdicts numbers.items why refused.located.items refl all reason located
     c.in_ok-part.ensures.ascending members same finished counted

@@ -37,5 +37,5 @@ returns c =
     (subst (λ (ts : List (Vec ℕ Global)). IsRunTold c.args.workers c.as_slice-3.result.now (map (λ s. s.items) ts) told) c.as_slice-2.ensures.value c.in_ok-told.ensures) in
     let origins : AreOrigins c.args.build.counts.items c.in_ok-origins.origins.items = subst (λ (l : List ℕ). AreOrigins l c.in_ok-origins.origins.items) c.as_slice.ensures.value c.in_ok-origins.ensures in
     whole_check c.args.workers held.unread.items (map (λ s. s.items) held.texts.items) standing
-    (record { part = part; texts = texts; unread = c.args.unread; refused = None; told = told; build = c.args.build }) c.requires.unread run c.requires.verdicts c.in_ok-origins.origins.items refl all same c.requires.finished c.requires.counted
+    (record { part = part; texts = texts; unread = c.args.unread; refused = None; told = told; build = c.args.build; spelled = c.of-spelled.result; counted = c.result-1.given.0 }) c.requires.unread run c.requires.verdicts c.in_ok-origins.origins.items refl all same c.requires.finished c.requires.counted
     c.legal.ensures origins

@@ -81,46 +81,46 @@ pub returns-in-Reply-clause-step : goal.returns-in-Reply-clause-step
 returns-in-Reply-clause-step g c =
     let e = c.in_ok-reply.ensures in
     stepped c.args.body.now c.args.self.now.session c.take.new.self c.in_ok-reply.field-0 (Reply c.in-Reply.reply) (TakenReply c.in-Reply.reply)
-    record { takes = e.takes; left = e.left; step = e.step; texts = e.texts; units = e.units; begun = e.begun; files = e.files; ended = e.ended; ends = e.ends; heard = e.heard } c.in-Reply.is refl
+    record { takes = e.takes; left = e.left; step = e.step; texts = e.texts; units = e.units; watches = e.watches; begun = e.begun; files = e.files; ended = e.ended; ends = e.ends; heard = e.heard } c.in-Reply.is refl
 
 pub returns-in_ok-reply_to-in-Ask-clause-step : goal.returns-in_ok-reply_to-in-Ask-clause-step
 returns-in_ok-reply_to-in-Ask-clause-step g c =
     let e = c.in_ok-reply.ensures in
     stepped_still c.args.body.now c.args.self.now.session c.take.new.self c.reply_to.new.self.session c.in_ok-reply.field-0 (Ask c.in-Ask.question c.in-Ask.request) (TakenReply c.in_ok-reply_to-in-Ask.field-0)
-    record { takes = e.takes; left = e.left; step = e.step; texts = e.texts; units = e.units; begun = e.begun; files = e.files; ended = e.ended; ends = e.ends; heard = e.heard } c.in-Ask.is (c.in_ok-reply_to-in-Ask.field-0, refl) c.in_ok-reply_to-in-Ask.ensures.session
+    record { takes = e.takes; left = e.left; step = e.step; texts = e.texts; units = e.units; watches = e.watches; begun = e.begun; files = e.files; ended = e.ended; ends = e.ends; heard = e.heard } c.in-Ask.is (c.in_ok-reply_to-in-Ask.field-0, refl) c.in_ok-reply_to-in-Ask.ensures.session
 
 pub returns-in_ok-follow-in-Changed-clause-step : goal.returns-in_ok-follow-in-Changed-clause-step
 returns-in_ok-follow-in-Changed-clause-step g c =
     let e = c.in_ok-reply.ensures in
     stepped_still c.args.body.now c.args.self.now.session c.take.new.self c.follow.new.self.session c.in_ok-reply.field-0 Changed TakenNothing
-    record { takes = e.takes; left = e.left; step = e.step; texts = e.texts; units = e.units; begun = e.begun; files = e.files; ended = e.ended; ends = e.ends; heard = e.heard } c.in-Changed.is refl c.in_ok-follow-in-Changed.ensures.session
+    record { takes = e.takes; left = e.left; step = e.step; texts = e.texts; units = e.units; watches = e.watches; begun = e.begun; files = e.files; ended = e.ended; ends = e.ends; heard = e.heard } c.in-Changed.is refl c.in_ok-follow-in-Changed.ensures.session
 
 pub returns-in-Nothing-clause-step : goal.returns-in-Nothing-clause-step
 returns-in-Nothing-clause-step g c =
     let e = c.in_ok-reply.ensures in
     stepped c.args.body.now c.args.self.now.session c.take.new.self c.in_ok-reply.field-0 Nothing TakenNothing
-    record { takes = e.takes; left = e.left; step = e.step; texts = e.texts; units = e.units; begun = e.begun; files = e.files; ended = e.ended; ends = e.ends; heard = e.heard } c.in-Nothing.is refl
+    record { takes = e.takes; left = e.left; step = e.step; texts = e.texts; units = e.units; watches = e.watches; begun = e.begun; files = e.files; ended = e.ended; ends = e.ends; heard = e.heard } c.in-Nothing.is refl
 
 pub returns-in-Ended-clause-step : goal.returns-in-Ended-clause-step
 returns-in-Ended-clause-step g c =
     let e = c.in_ok-reply.ensures in
     stepped c.args.body.now c.args.self.now.session c.take.new.self c.in_ok-reply.field-0 (Ended c.in-Ended.status) (TakenEnded c.in-Ended.status)
-    record { takes = e.takes; left = e.left; step = e.step; texts = e.texts; units = e.units; begun = e.begun; files = e.files; ended = e.ended; ends = e.ends; heard = e.heard } c.in-Ended.is refl
+    record { takes = e.takes; left = e.left; step = e.step; texts = e.texts; units = e.units; watches = e.watches; begun = e.begun; files = e.files; ended = e.ended; ends = e.ends; heard = e.heard } c.in-Ended.is refl
 
 pub returns-in-Files-clause-step : goal.returns-in-Files-clause-step
 returns-in-Files-clause-step g c =
     let e = c.in_ok-reply.ensures in
     stepped c.args.body.now c.args.self.now.session c.take.new.self c.in_ok-reply.field-0 (Files c.in-Files.uris) (TakenFiles c.in-Files.uris)
-    record { takes = e.takes; left = e.left; step = e.step; texts = e.texts; units = e.units; begun = e.begun; files = e.files; ended = e.ended; ends = e.ends; heard = e.heard } c.in-Files.is refl
+    record { takes = e.takes; left = e.left; step = e.step; texts = e.texts; units = e.units; watches = e.watches; begun = e.begun; files = e.files; ended = e.ended; ends = e.ends; heard = e.heard } c.in-Files.is refl
 
 pub returns-then-not-watches_files-clause-step : goal.returns-then-not-watches_files-clause-step
 returns-then-not-watches_files-clause-step g c =
     let e = c.in_ok-reply.ensures in
     stepped c.args.body.now c.args.self.now.session c.take.new.self c.in_ok-reply.field-0 Begun TakenNothing
-    record { takes = e.takes; left = e.left; step = e.step; texts = e.texts; units = e.units; begun = e.begun; files = e.files; ended = e.ended; ends = e.ends; heard = e.heard } c.in-Begun.is (subst (λ w. IsSentFor w TakenNothing) c.if-not-watches_files.ensures refl)
+    record { takes = e.takes; left = e.left; step = e.step; texts = e.texts; units = e.units; watches = e.watches; begun = e.begun; files = e.files; ended = e.ended; ends = e.ends; heard = e.heard } c.in-Begun.is (subst (λ w. IsSentFor w TakenNothing) c.if-not-watches_files.ensures refl)
 
 pub returns-in_ok-registration-in-Begun-clause-step : goal.returns-in_ok-registration-in-Begun-clause-step
 returns-in_ok-registration-in-Begun-clause-step g c =
     let e = c.in_ok-reply.ensures in
     stepped c.args.body.now c.args.self.now.session c.take.new.self c.in_ok-reply.field-0 Begun (TakenRequest c.in_ok-registration-in-Begun.field-0)
-    record { takes = e.takes; left = e.left; step = e.step; texts = e.texts; units = e.units; begun = e.begun; files = e.files; ended = e.ended; ends = e.ends; heard = e.heard } c.in-Begun.is (subst (λ w. IsSentFor w (TakenRequest c.in_ok-registration-in-Begun.field-0)) c.if-not-watches_files.ensures (c.in_ok-registration-in-Begun.field-0, refl))
+    record { takes = e.takes; left = e.left; step = e.step; texts = e.texts; units = e.units; watches = e.watches; begun = e.begun; files = e.files; ended = e.ended; ends = e.ends; heard = e.heard } c.in-Begun.is (subst (λ w. IsSentFor w (TakenRequest c.in_ok-registration-in-Begun.field-0)) c.if-not-watches_files.ensures (c.in_ok-registration-in-Begun.field-0, refl))

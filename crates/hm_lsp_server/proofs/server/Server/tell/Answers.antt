@@ -17,7 +17,13 @@ returns-in_default-clause-published g c = (
 pub returns-in_ok-tell_both-in-Ok-clause-published : goal.returns-in_ok-tell_both-in-Ok-clause-published
 returns-in_ok-tell_both-in-Ok-clause-published g c =
     let made = c.in_ok-tell_both-in-Ok.ensures.published in
-    (made.0, made.1, shown_by_both c.args.self.now c.tell_both.new.self c.in-Some.checked c.in-Ok.second made.0 c.in_ok-tell_both-in-Ok.ensures.kept c.in-Ok.ensures.second (made.2 c.in-Some.checked c.in-Some.is))
+    let kept = c.in_ok-tell_both-in-Ok.ensures.kept in
+    let check = made.2 c.in-Some.checked c.in-Some.is in (
+      made.0,
+      made.1,
+      shown_by_both c.args.self.now _ c.in-Some.checked c.in-Ok.second made.0 record { session = kept.session; sources = kept.sources; held = kept.held; good = kept.good; checked = kept.checked; changed = kept.changed } c.in-Ok.ensures.second
+          record { checked = check.checked; check = check.check; told = check.told },
+    )
 
 pub returns-in_ok-tell_both-in-Err-clause-published : goal.returns-in_ok-tell_both-in-Err-clause-published
 returns-in_ok-tell_both-in-Err-clause-published g c =
