@@ -6,6 +6,7 @@ mod Offering
 mod Reading
 mod Taking
 mod WorkedCancels
+mod WorkedCapabilities
 mod WorkedChanges
 mod WorkedDecisions
 mod WorkedFolders

@@ -1,11 +1,13 @@
 -- The units that a client offers.
-use Rattle.std.proofs.Common.{◌≡◌, ◌∙◌, ◌+◌, ◌<◌, ◌≤◌, ◌⊎◌, ◌++◌, ◌∷◌, [], ℕ, zero, suc, List, Option, Some, ap, arith, get_or, inl, inr, length, rules, subst, sym, take}
+use Rattle.std.proofs.Common.{◌≡◌, ◌∙◌, ◌+◌, ◌<◌, ◌≤◌, ◌⊎◌, ◌++◌, ◌∷◌, [], ℕ, zero, suc, List, Option, Some, ap, arith, codes, get_or, inl, inr, length, refl, rules, subst, sym, take}
 use Rattle.std.proofs.lemmas.List.{take_all, take_more}
+use Rattle.serde_json.proofs.OnLiterals.{serde_json_on_literals}
 use Rattle.serde_json.specs.Data.{Data, null}
-use Rattle.serde_json.specs.Find.{as_str}
+use Rattle.serde_json.specs.Find.{as_str, get}
 use Rattle.serde_json.specs.View.{items_view, view}
 use Rattle.serde_json.specs.declared.value.Value.{Null, Value, the_lemmas}
-use Rattle.hm_lsp_session.specs.Units.{HasText}
+use Rattle.hm_lsp_positions.specs.declared.units.Encoding.{Encoding}
+use Rattle.hm_lsp_session.specs.Units.{HasText, ListsUnits, capabilities_data, unit_name}
 
 -- a text is among values if it is one of them
 pub has_at : (text : List ℕ) (vs : List Value) (i : ℕ) (v : Value) → i < length vs → v ≡ get_or vs i v → as_str (view v) ≡ Some text → HasText text (items_view vs)
@@ -36,3 +38,9 @@ none_at_all text vs i ends none has = none (subst (λ l. HasText text (items_vie
 
 pub null_is : view Null ≡ null
 null_is = search (rules, the_lemmas)
+
+-- the list of capabilities has the units
+pub lists_units : (units : Encoding) (answer capabilities completions renames : Data) → get (codes "capabilities") answer ≡ Some capabilities → capabilities ≡ capabilities_data (unit_name units) completions renames
+    → ListsUnits units answer
+unfolding serde_json_on_literals
+lists_units units answer capabilities completions renames has is = record { completions = completions; renames = renames; lists = has ∙ ap (λ d. Some d) is; says = refl }

@@ -8,4 +8,5 @@ pub mod Replies
 pub mod Stages
 pub mod Steps
 pub mod Units
+pub mod Watching
 pub mod Worked

@@ -43,11 +43,12 @@ capabilities_data units completions renames =
     (member (codes "textDocumentSync") (object (member (codes "change") (number (unsigned 2)) (member (codes "openClose") (boolean true) no_members)))
     (member (codes "workspaceSymbolProvider") (boolean true) no_members)))))))))))
 
--- the result of `initialize` lists these units among what the server does
+-- the result of `initialize` lists what the server does, and these units
 pub record ListsUnits (units : Encoding) (answer : Data) : Type 0 where
-  pub capabilities : Data
-  pub lists : get (codes "capabilities") answer ≡ Some capabilities
-  pub says : get (codes "positionEncoding") capabilities ≡ Some (string (unit_name units))
+  pub completions : Data
+  pub renames : Data
+  pub lists : get (codes "capabilities") answer ≡ Some (capabilities_data (unit_name units) completions renames)
+  pub says : get (codes "positionEncoding") (capabilities_data (unit_name units) completions renames) ≡ Some (string (unit_name units))
 
 abbrev pub SaysUnits : Encoding → Data → Type 0
 SaysUnits units reply = (answer : Data) × ((get (codes "result") reply ≡ Some answer) × ListsUnits units answer)

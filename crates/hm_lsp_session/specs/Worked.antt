@@ -1,16 +1,19 @@
 -- Worked examples: what a server does with a message, the changes, files and folders that a message has, and the request that one cancels.
-use Rattle.std.specs.Prelude.{◌≡◌, [], ◌∷◌, None, Some, codes}
-use Rattle.serde_json.specs.Data.{Data, Items, array, item, member, no_items, no_members, null, number, object, string, unsigned}
+use Rattle.std.specs.Prelude.{◌≡◌, ℕ, List, [], ◌∷◌, false, true, None, Some, codes}
+use Rattle.serde_json.specs.Data.{Data, Items, array, boolean, item, member, no_items, no_members, null, number, object, string, unsigned}
+use Rattle.serde_json.specs.Find.{get}
 use Rattle.hm_lsp_positions.specs.declared.changes.Change.{Change}
 use Rattle.hm_lsp_session.specs.Cancelled.{IsOfId, IsSameId}
 use Rattle.hm_lsp_session.specs.Folders.{IsOpening, folders_in, sources_in}
 use Rattle.hm_lsp_session.specs.Params.{AreChangesIn, changed_files}
 use Rattle.hm_lsp_positions.specs.declared.units.Encoding.TheVariants.{Utf16, Utf8}
-use Rattle.hm_lsp_session.specs.Units.{HasText, IsAgreed}
-use Rattle.hm_lsp_session.specs.Stages.{method_named, notification_decision, request_decision}
+use Rattle.hm_lsp_session.specs.Units.{HasText, IsAgreed, capabilities_data}
+use Rattle.hm_lsp_session.specs.Watching.{IsWatching}
+use Rattle.hm_lsp_session.specs.Stages.{method_named, notification_decision, question_named, request_decision}
 use Rattle.hm_lsp_session.specs.declared.stages.Decision.TheVariants.{End, Go, Ignore, Refuse}
 use Rattle.hm_lsp_session.specs.declared.stages.Method.TheVariants.{DidOpen, Exit, Initialize, Question}
-use Rattle.hm_lsp_session.specs.declared.stages.Question.TheVariants.{Hover}
+use Rattle.hm_lsp_session.specs.declared.stages.Question.{Question as Asked}
+use Rattle.hm_lsp_session.specs.declared.stages.Question.TheVariants.{CodeAction, Completion, Definition, DocumentHighlight, DocumentSymbol, Hover, References, Rename, WorkspaceSymbol}
 use Rattle.hm_lsp_session.specs.declared.stages.Refusal.TheVariants.{InvalidRequest, NotInitialized}
 use Rattle.hm_lsp_session.specs.declared.stages.Stage.TheVariants.{New, Ready, ShutDown}
 
@@ -90,3 +93,33 @@ pub record UnitsRow : Type 0 where
   pub not_offered : ¬ (HasText (codes "utf-32") two_units)
   pub each_has : IsAgreed null Utf16
   pub not_bytes : ¬ (IsAgreed null Utf8)
+
+-- the server lists a capability, and the service replies to requests of this method
+pub record IsProvided (list : Data) (capability method : List ℕ) (question : Asked) : Type 0 where
+  pub provider : Data
+  pub listed : get capability list ≡ Some provider
+  pub served : question_named method ≡ Some question
+
+-- each capability that stands for requests has them
+pub record AreProvided (list : Data) : Type 0 where
+  pub actions : IsProvided list (codes "codeActionProvider") (codes "textDocument/codeAction") CodeAction
+  pub completions : IsProvided list (codes "completionProvider") (codes "textDocument/completion") Completion
+  pub definitions : IsProvided list (codes "definitionProvider") (codes "textDocument/definition") Definition
+  pub highlights : IsProvided list (codes "documentHighlightProvider") (codes "textDocument/documentHighlight") DocumentHighlight
+  pub symbols : IsProvided list (codes "documentSymbolProvider") (codes "textDocument/documentSymbol") DocumentSymbol
+  pub hovers : IsProvided list (codes "hoverProvider") (codes "textDocument/hover") Hover
+  pub references : IsProvided list (codes "referencesProvider") (codes "textDocument/references") References
+  pub renames : IsProvided list (codes "renameProvider") (codes "textDocument/rename") Rename
+  pub of_all : IsProvided list (codes "workspaceSymbolProvider") (codes "workspace/symbol") WorkspaceSymbol
+
+-- the capabilities that a server lists. Formatting isn't among them, and has no requests
+pub record CapabilitiesRow : Type 0 where
+  pub each : (units : List ℕ) (completions renames : Data) → AreProvided (capabilities_data units completions renames)
+  pub not_listed : (units : List ℕ) (completions renames : Data) → get (codes "documentFormattingProvider") (capabilities_data units completions renames) ≡ None
+  pub no_requests : question_named (codes "textDocument/formatting") ≡ None
+
+-- a client that offers to watch files, and one that offers nothing
+pub record WatchingRow : Type 0 where
+  pub offered : IsWatching (object (member (codes "capabilities") (object (member (codes "workspace") (object (member (codes "didChangeWatchedFiles") (object (member (codes "dynamicRegistration") (boolean true) no_members)) no_members)) no_members)) no_members)) true
+  pub not_offered : IsWatching null false
+  pub not_without : ¬ (IsWatching null true)

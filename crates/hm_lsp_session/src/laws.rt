@@ -1,5 +1,5 @@
 //! Worked examples. Each is a function with an empty body, and its contract states the example.
-ghost use Rattle.hm_lsp_session.specs.Worked.{CancelRow, ChangesRow, DecisionsRow, FilesRow, FoldersRow, UnitsRow};
+ghost use Rattle.hm_lsp_session.specs.Worked.{CancelRow, CapabilitiesRow, ChangesRow, DecisionsRow, FilesRow, FoldersRow, UnitsRow, WatchingRow};
 
 /// What a server does with a message.
 #[tactic(auto, using(crate::proofs::WorkedDecisions::worked_decisions))]
@@ -30,4 +30,11 @@ pub fn worked_cancels()
 #[tactic(auto, using(crate::proofs::WorkedUnits::worked_units))]
 pub fn worked_units()
     ensures { UnitsRow }
+{}
+
+/// The capabilities that a server lists, and a client that watches files.
+#[tactic(auto, using(crate::proofs::WorkedCapabilities::worked_capabilities, crate::proofs::WorkedCapabilities::worked_watching))]
+pub fn worked_capabilities()
+    ensures capabilities { CapabilitiesRow }
+    ensures watching { WatchingRow }
 {}

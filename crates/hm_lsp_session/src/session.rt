@@ -1,7 +1,7 @@
 //! A session: how far it is, the documents of the client, and what each message does.
-ghost use Rattle.std.specs.Prelude.{◌≡◌, [], None, Some, IfOk, IsSome, IsTrue, OnErr, codes, false, option_map};
+ghost use Rattle.std.specs.Prelude.{◌≡◌, [], None, Some, IfOk, IsSome, IsTrue, OnErr, codes, false, true, option_and_then, option_map};
 ghost use Rattle.serde_json.specs.Data.{Data, null};
-ghost use Rattle.serde_json.specs.Find.{get};
+ghost use Rattle.serde_json.specs.Find.{as_bool, get};
 ghost use Rattle.serde_json.specs.View.{items_view, view};
 ghost use Rattle.hm_lsp_session.specs.Documents.{listed, SameTexts};
 ghost use Rattle.hm_lsp_session.specs.Effects.{documents_of, encoding_of, HasBodyEffect, HasEffect, HasMessageEffect, HasNoChange, HasNoDocument, HasNoText, HasParamsEffect, IsAppliedTo, IsChanged, IsBodyHeard, IsClosed, IsHeard, IsIgnored, IsIgnoredIn, IsNotApplied, IsNothingOnlyFor, IsOpened, TextsAre};
@@ -10,6 +10,7 @@ ghost use Rattle.hm_lsp_session.specs.Params.{changed_files};
 ghost use Rattle.hm_lsp_session.specs.Stages.{request_decision};
 ghost use Rattle.hm_lsp_session.specs.Steps.{stage_of, IsEdit, IsNews, IsStep};
 ghost use Rattle.hm_lsp_session.specs.Units.{capabilities_data, params_in, unit_name, HasText, HaveUnits, HaveUnitsAfter, IsAgreed, ListsUnits, OffersUnits, SaysUnits};
+ghost use Rattle.hm_lsp_session.specs.Watching.{IsWatching, OffersToWatch, Watches, WatchesAfter};
 ghost use Rattle.hm_lsp_session.specs.Replies.{method_of, AnswersRequest, IsAsked, IsLeft, IsLeftOf, IsReplyTo, RefusesMessage, Takes, TakesBody, TakesNotification, TakesOther};
 
 use crate::documents::Documents;
@@ -21,9 +22,6 @@ use crate::stages::{
 use hm_lsp_positions::{Change, ChangeFault, Encoding, all_changed};
 use serde_json::{Value, json};
 use std::alloc::{AllocError, Global};
-
-/// Where a client offers to watch files.
-const WATCHES: &str = "/capabilities/workspace/didChangeWatchedFiles/dynamicRegistration";
 
 /// What a message of the client leads to. No message has more than one reply.
 #[derive(Drop)]
@@ -56,12 +54,33 @@ pub struct Session {
     documents: Documents,
 }
 
-/// Returns whether the client offers what is at this path of the parameters of `initialize`.
-fn offers(params: &Value, path: &str) -> bool {
-    match params.pointer(path) {
+/// Returns whether a parameter says yes.
+fn says_yes(offer: Option<&Value>) -> bool
+    ensures yes { IsTrue result → option_and_then as_bool (option_map (λ v. view v.now) offer.entry) ≡ Some true }
+    ensures no { result ≡ false → ¬ (option_and_then as_bool (option_map (λ v. view v.now) offer.entry) ≡ Some true) }
+{
+    match offer {
         Some(offer) => offer.as_bool() == Some(true),
         None => false,
     }
+}
+
+/// Returns whether the client offers to watch files.
+fn offers_to_watch(params: &Value) -> bool
+    ensures yes { IsTrue result → OffersToWatch (view params.now) }
+    ensures no { result ≡ false → ¬ (OffersToWatch (view params.now)) }
+{
+    says_yes(params.pointer("/capabilities/workspace/didChangeWatchedFiles/dynamicRegistration"))
+}
+
+/// Returns whether the client watches files.
+fn is_watching(params: &Value) -> bool
+    ensures { IsWatching (view params.now) result }
+{
+    if offers_to_watch(params) {
+        return true;
+    }
+    false
 }
 
 /// Returns whether one of these values is a text.
@@ -103,7 +122,7 @@ fn offered_encoding(params: &Value) -> Encoding
 
 /// Returns how the server renames. A client that doesn't ask for the range of a name first doesn't know the longer form.
 fn rename_provider(alloc: Global, params: &Value) -> Result<Value, AllocError> {
-    if offers(params, "/capabilities/textDocument/rename/prepareSupport") {
+    if says_yes(params.pointer("/capabilities/textDocument/rename/prepareSupport")) {
         return json!(in alloc; {"prepareProvider": true});
     }
     Ok(Value::Bool(true))
@@ -120,8 +139,8 @@ fn unit_name(encoding: Encoding) -> &'static str
     }
 }
 
-/// Returns what the server does, with the name of its units.
-fn abilities(
+/// Returns the capabilities of the server, with the name of its units.
+fn capability_list(
     alloc: Global,
     units: &str,
     completions: &Value,
@@ -145,20 +164,20 @@ fn abilities(
 }
 
 /// Returns the result of `initialize` with these capabilities.
-fn answer(alloc: Global, capabilities: &Value) -> Result<Value, AllocError>
+fn initialized(alloc: Global, capabilities: &Value) -> Result<Value, AllocError>
     ensures { IfOk result (λ made. get (codes "capabilities") (view made) ≡ Some (view capabilities.now)) }
 {
     json!(in alloc; {"capabilities": capabilities, "serverInfo": {"name": "hmc"}})
 }
 
-/// Returns the result of `initialize`: the capabilities of the server.
-fn capabilities(alloc: Global, encoding: Encoding, params: &Value) -> Result<Value, AllocError>
+/// Returns the result of `initialize`.
+fn initialize_result(alloc: Global, encoding: Encoding, params: &Value) -> Result<Value, AllocError>
     ensures { IfOk result (λ made. ListsUnits encoding (view made)) }
 {
     let renames = rename_provider(alloc, params)?;
     let completions = json!(in alloc; {"triggerCharacters": ["."]})?;
-    let capabilities = abilities(alloc, unit_name(encoding), &completions, &renames)?;
-    Ok(answer(alloc, &capabilities)?)
+    let capabilities = capability_list(alloc, unit_name(encoding), &completions, &renames)?;
+    Ok(initialized(alloc, &capabilities)?)
 }
 
 /// Returns the name of the method of a message.
@@ -228,12 +247,14 @@ impl Session {
         ensures id { IfOk result (λ made. IsReplyTo (view id.now) (view made)) }
         ensures kept { self.new.documents ≡ self.old.documents }
         ensures agreed { IfOk result (λ made. IsAgreed (view params.now) self.new.encoding) }
+        ensures watching { IfOk result (λ made. IsWatching (view params.now) self.new.watches_files) }
         ensures said { IfOk result (λ made. SaysUnits self.new.encoding (view made)) }
     {
         let encoding = offered_encoding(params);
-        let made = reply(self.alloc, id, capabilities(self.alloc, encoding, params)?)?;
+        let answer = initialize_result(self.alloc, encoding, params)?;
+        let made = reply(self.alloc, id, answer)?;
         self.encoding = encoding;
-        self.watches_files = offers(params, WATCHES);
+        self.watches_files = is_watching(params);
         self.stage = Stage::Ready;
         Ok(made)
     }
@@ -244,6 +265,7 @@ impl Session {
         ensures id { IfOk result (λ made. IsReplyTo (view id.now) (view made)) }
         ensures kept { self.new.documents ≡ self.old.documents }
         ensures units { self.new.encoding ≡ self.old.encoding }
+        ensures watches { self.new.watches_files ≡ self.old.watches_files }
     {
         let made = reply(self.alloc, id, Value::Null)?;
         self.stage = Stage::ShutDown;
@@ -255,6 +277,7 @@ impl Session {
         ensures silent { IfOk result (λ out. TakesNotification out) }
         ensures stage { self.new.stage ≡ self.old.stage }
         ensures units { self.new.encoding ≡ self.old.encoding }
+        ensures watches { self.new.watches_files ≡ self.old.watches_files }
         ensures edits { IfOk result (λ out. IsEdit out) }
         ensures texts { IfOk result (λ out. TextsAre out (IsOpened (view params.now) self.old.documents self.new.documents) self.old.documents self.new.documents) }
         ensures ignored { IfOk result (λ out. IsNothingOnlyFor (HasNoText (view params.now)) out) }
@@ -277,6 +300,7 @@ impl Session {
         ensures silent { IfOk result (λ out. TakesNotification out) }
         ensures stage { self.new.stage ≡ self.old.stage }
         ensures units { self.new.encoding ≡ self.old.encoding }
+        ensures watches { self.new.watches_files ≡ self.old.watches_files }
         ensures edits { IfOk result (λ out. IsEdit out) }
         ensures texts { IfOk result (λ out. TextsAre out (IsAppliedTo self.old.encoding uri.now changes.now self.old.documents self.new.documents) self.old.documents self.new.documents) }
         ensures ignored { IfOk result (λ out. IsNothingOnlyFor (IsNotApplied self.old.encoding uri.now changes.now self.old.documents) out) }
@@ -300,6 +324,7 @@ impl Session {
         ensures silent { IfOk result (λ out. TakesNotification out) }
         ensures stage { self.new.stage ≡ self.old.stage }
         ensures units { self.new.encoding ≡ self.old.encoding }
+        ensures watches { self.new.watches_files ≡ self.old.watches_files }
         ensures edits { IfOk result (λ out. IsEdit out) }
         ensures texts { IfOk result (λ out. TextsAre out (IsChanged self.old.encoding (view params.now) self.old.documents self.new.documents) self.old.documents self.new.documents) }
         ensures ignored { IfOk result (λ out. IsNothingOnlyFor (HasNoChange self.old.encoding (view params.now) self.old.documents) out) }
@@ -322,6 +347,7 @@ impl Session {
         ensures silent { IfOk result (λ out. TakesNotification out) }
         ensures stage { self.new.stage ≡ self.old.stage }
         ensures units { self.new.encoding ≡ self.old.encoding }
+        ensures watches { self.new.watches_files ≡ self.old.watches_files }
         ensures edits { IfOk result (λ out. IsEdit out) }
         ensures texts { IfOk result (λ out. TextsAre out (IsClosed (view params.now) self.old.documents self.new.documents) self.old.documents self.new.documents) }
         ensures ignored { IfOk result (λ out. IsNothingOnlyFor (HasNoDocument (view params.now) self.old.documents) out) }
@@ -343,6 +369,7 @@ impl Session {
         ensures silent { IfOk result (λ out. TakesNotification out) }
         ensures stage { self.new.stage ≡ self.old.stage }
         ensures units { self.new.encoding ≡ self.old.encoding }
+        ensures watches { self.new.watches_files ≡ self.old.watches_files }
         ensures news { IfOk result (λ out. IsNews out) }
         ensures texts { IfOk result (λ out. TextsAre out (HasEffect method (view params.now) self.old.encoding self.old.documents self.new.documents) self.old.documents self.new.documents) }
         ensures begun { IfOk result (λ out. IfBegun out (method ≡ Method.Initialized)) }
@@ -392,6 +419,7 @@ impl Session {
         ensures one { IfOk result (λ out. (id : Data) → get (codes "id") (view message) ≡ Some id → AnswersRequest (view message) id out) }
         ensures left { IfOk result (λ out. (q : Question) → method ≡ Method.Question q → IsAsked q (view message) out) }
         ensures units { IfOk result (λ out. HaveUnits (view message) out self.old.stage self.new.stage self.old.encoding self.new.encoding) }
+        ensures watches { IfOk result (λ _. Watches (view message) self.old.stage self.new.stage self.old.watches_files self.new.watches_files) }
         ensures kept { self.new.documents ≡ self.old.documents }
     {
         let null = Value::Null;
@@ -421,6 +449,7 @@ impl Session {
         ensures one { IfOk result (λ out. (id : Data) → get (codes "id") (view message) ≡ Some id → AnswersRequest (view message) id out) }
         ensures left { IfOk result (λ out. (q : Question) → self.old.stage ≡ Stage.Ready → method ≡ Method.Question q → IsAsked q (view message) out) }
         ensures units { IfOk result (λ out. HaveUnits (view message) out self.old.stage self.new.stage self.old.encoding self.new.encoding) }
+        ensures watches { IfOk result (λ _. Watches (view message) self.old.stage self.new.stage self.old.watches_files self.new.watches_files) }
         ensures kept { self.new.documents ≡ self.old.documents }
     {
         let why = match request_decision(self.stage, method) {
@@ -442,6 +471,7 @@ impl Session {
         ensures texts { IfOk result (λ out. TextsAre out (HasParamsEffect method (view message.now) self.old.encoding self.old.documents self.new.documents) self.old.documents self.new.documents) }
         ensures stage { self.new.stage ≡ self.old.stage }
         ensures units { self.new.encoding ≡ self.old.encoding }
+        ensures watches { self.new.watches_files ≡ self.old.watches_files }
         ensures begun { IfOk result (λ out. IfBegun out (method ≡ Method.Initialized)) }
         ensures files { IfOk result (λ out. IfFiles out (AreFilesIn method (view message.now))) }
         ensures ended { IfOk result (λ out. IfEnded out (method ≡ Method.Exit)) }
@@ -500,6 +530,7 @@ impl Session {
         ensures step { IfOk result (λ out. IsStep self.old.stage out self.new.stage) }
         ensures texts { IfOk result (λ out. TextsAre out (HasMessageEffect (view message) self.old.encoding self.old.documents self.new.documents) self.old.documents self.new.documents) }
         ensures units { IfOk result (λ out. HaveUnits (view message) out self.old.stage self.new.stage self.old.encoding self.new.encoding) }
+        ensures watches { IfOk result (λ _. Watches (view message) self.old.stage self.new.stage self.old.watches_files self.new.watches_files) }
         ensures begun { IfOk result (λ out. IfBegun out (IsBegin (view message))) }
         ensures files { IfOk result (λ out. IfFiles out (AreFilesSaid (view message))) }
         ensures ended { IfOk result (λ out. IfEnded out (IsExit (view message))) }
@@ -530,6 +561,7 @@ impl Session {
         ensures step { IfOk result (λ out. IsStep (stage_of self.old) out (stage_of self.new)) }
         ensures texts { IfOk result (λ out. TextsAre out (HasBodyEffect body.now (encoding_of self.old) (documents_of self.old) (documents_of self.new)) (documents_of self.old) (documents_of self.new)) }
         ensures units { IfOk result (λ out. HaveUnitsAfter body.now out (stage_of self.old) (stage_of self.new) (encoding_of self.old) (encoding_of self.new)) }
+        ensures watches { IfOk result (λ _. WatchesAfter body.now (stage_of self.old) (stage_of self.new) (watches_files self.old) (watches_files self.new)) }
         ensures begun { IfOk result (λ out. IfBegun out (IsBody body.now IsBegin)) }
         ensures files { IfOk result (λ out. IfFiles out (λ uris. IsBody body.now (λ message. AreFilesSaid message uris))) }
         ensures ended { IfOk result (λ out. IfEnded out (IsBody body.now IsExit)) }

@@ -2,6 +2,7 @@ use Rattle.std.proofs.Common.{◌∙◌, ap, sym}
 use Rattle.serde_json.specs.Read.{read}
 use Rattle.serde_json.specs.View.{view}
 use Rattle.hm_lsp_session.specs.Units.{understood}
+use Rattle.hm_lsp_session.specs.Watching as watching
 use Rattle.hm_lsp_session.proofs.Taking.{begun_of_body, files_of_body, left_of, taken, texts_of_body}
 use Rattle.hm_lsp_session.proofs.session.Session.take.Goals as goal
 
@@ -30,3 +31,7 @@ returns-in_ok-take_message-in-Ok-from_str-clause-files c =
 
 pub returns-in_ok-take_message-in-Ok-from_str-clause-units : goal.returns-in_ok-take_message-in-Ok-from_str-clause-units
 returns-in_ok-take_message-in-Ok-from_str-clause-units c = understood (ap read (sym c.in-Ok.ensures.cases.0) ∙ c.in-Ok-from_str.ensures.ok) c.in_ok-take_message-in-Ok-from_str.ensures.units
+
+pub returns-in_ok-take_message-in-Ok-from_str-clause-watches : goal.returns-in_ok-take_message-in-Ok-from_str-clause-watches
+returns-in_ok-take_message-in-Ok-from_str-clause-watches c =
+    watching.understood (ap read (sym c.in-Ok.ensures.cases.0) ∙ c.in-Ok-from_str.ensures.ok) c.in_ok-take_message-in-Ok-from_str.ensures.watches
