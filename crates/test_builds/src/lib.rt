@@ -6,6 +6,8 @@ mod builds;
 #[cfg(test)]
 mod devices;
 #[cfg(test)]
+mod earlier;
+#[cfg(test)]
 mod pages;
 #[cfg(test)]
 mod refused;

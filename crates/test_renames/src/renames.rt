@@ -369,7 +369,7 @@ fn outcome_in<T: Threads + Wait + Sync>(
     held: &[HeldSource],
     row: &Row,
 ) -> Result<Outcome, Fail> {
-    let checked = check(rt, alloc, held, 2).map_err(|_| "no check")?;
+    let checked = check(rt, alloc, held, &[], 2).map_err(|_| "no check")?;
     let set = CheckedSet {
         held,
         checked: &checked,
@@ -477,7 +477,7 @@ fn found_in<T: Threads + Wait + Sync>(
     let mut held = Vec::new(alloc);
     held.push(source_with(rt, alloc, row.first)?)?;
     held.push(source_with(rt, alloc, row.second)?)?;
-    let checked = check(rt, alloc, held.as_slice(), 2).map_err(|_| "no check")?;
+    let checked = check(rt, alloc, held.as_slice(), &[], 2).map_err(|_| "no check")?;
     let set = CheckedSet {
         held: held.as_slice(),
         checked: &checked,
