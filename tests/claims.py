@@ -3,7 +3,7 @@
 
 `claims.py [--sources N] [--seed N] [--processes N] [PROGRAM]`: without PROGRAM, the proved program beside this folder is run. The good sources are those
 of bench/programs. A fault is made by chance: a token left out, given twice, exchanged with the next one or put elsewhere; a line left out; a name with another letter, or taken
-out of scope; a type or a value of Prelude declared again; a slip in an expression, as bench/slips.py makes them. For each message that a run prints, what can be tried is tried:
+out of scope; a name that another module has; a type or a value of Prelude declared again; a slip in an expression, as bench/slips.py makes them. For each message that a run prints, what can be tried is tried:
 
 - the change of a token: the source without it can't be read up to there, and with it the fault is gone or further on;
 - a near name: with it no name is unbound or ambiguous at this place, no module is missing, and an import exports it;
@@ -14,7 +14,10 @@ out of scope; a type or a value of Prelude declared again; a slip in an expressi
 - another expression: with a hole there, the definition has a type; an exchange, an argument left out, a text put in: the same with the changed source;
 - a type without a signature: the module without it is good, and has the same type with this one as the signature;
 - a fault that follows from a signature: without it, neither of the two definitions is a type fault;
-- a type variable that is named like a type: with the type's name in its place, this name is in scope.
+- a type variable that is named like a type: with the type's name in its place, this name is in scope;
+- a module that isn't imported, and an import that leaves a name out: with an import of the name, nothing at its place is unbound;
+- a module that doesn't export a variable: it is declared at the place, and can't be imported;
+- an expected type: with a definition that has this type as its signature, and with holes as the other unbound variables, the module is good.
 
 Prints how often each was tried, and each claim that is false. Ends with 1 if there is one. The sources are a function of the seed.
 """
@@ -352,7 +355,68 @@ def try_variable(program, source, message):
     return "a type variable that is named like a type"
 
 
-CLAIMS = [try_change, try_near, try_written, try_types, try_part, try_both, try_signature, try_follows, try_variable]
+def has_import(program, source, module, name):
+    """Whether another module can import this variable."""
+    return "faulty Tried'" not in ask(program, f"{source}\nmodule Tried' where {{ import {module} ({name}) ; }}")[0]
+
+
+def try_importable(program, source, message):
+    if message["kind"] != "importable" or len(message["edits"]) != 1:
+        return None
+    (edit,), start = message["edits"], message["start"]
+    at, moved = offset(source, edit["start"]), len(edit["text"]) if edit["start"]["line"] == start["line"] else 0
+    if has_fault(ask(program, with_text(source, at, at, edit["text"]))[1], start["line"], start["byte"] + moved, ("unbound",)):
+        raise Finding(f"'{message['name']}' isn't in scope with the import")
+    return "a module that isn't imported"
+
+
+def try_left_out(program, source, message):
+    if message["kind"] not in ("left-out", "private") or not message["name"][0].islower():
+        return None
+    module, start = re.match(r"'([\w'.]+)'", message["text"])[1], offset(source, message["start"])
+    exported = message["kind"] == "left-out"
+    if not source.startswith(module if exported else message["name"], start):
+        raise Finding("the name isn't there")
+    if has_import(program, source, module, message["name"]) != exported:
+        raise Finding(f"'{message['name']}' is exported or isn't")
+    return "an import that leaves a name out" if exported else "a module that doesn't export a name"
+
+
+def module_end(source, name):
+    """Returns where the last bracket of a module is."""
+    tokens, depth = slips.tokens_of(source), 0
+    texts = [it.text for it in tokens]
+    start = next(at for at, text in enumerate(texts) if text == "module" and texts[at + 1] == name)
+    for token in tokens[texts.index("where", start) :]:
+        depth += {"{": 1, "}": -1}.get(token.text, 0)
+        if token.text == "}" and not depth:
+            return token.start
+    raise Finding(f"module '{name}' has no end")
+
+
+def try_expected(program, source, message):
+    if message["kind"] != "expected":
+        return None
+    name, written = re.fullmatch(r"'([\w'.]+)' is expected to have type '(.+)'", message["text"]).groups()
+    start, end = offset(source, message["start"]), module_end(source, message["module"])
+    unbound = {it["name"] for it in ask(program, source)[1] if it["kind"] == "unbound" and it["module"] == message["module"]}
+    if not source.startswith(name, start) or name not in unbound or written != message["expected"]:
+        raise Finding(f"'{name}' isn't there, or isn't unbound")
+    others = [it for it in unbound if it != name]
+    if not all(re.fullmatch(r"[a-z_][\w']*", it) for it in [*others, *([name] if source.count(name) > 1 else [])]):
+        return None
+    holes = "".join(f" ; {it} = {HOLE}" for it in unbound if re.fullmatch(r"[a-z_][\w']*", it))
+    tried = f"{source[:start]}tried'{source[start + len(name) : end]} ; tried' :: {written} ; tried' = {HOLE}{holes}{source[end:]}"
+    faults = [it for it in ask(program, tried)[1] if it["level"] == "error" and it["module"] == message["module"]]
+    if any(it["kind"] == "unbound" and it["name"] in re.findall(r"[\w'.]+", written) for it in faults):
+        # A type of another module that isn't in scope here can't be written.
+        return None
+    if faults:
+        raise Finding(f"with a definition of this type the module has the fault {faults[0]['text']}")
+    return "an expected type"
+
+
+CLAIMS = [try_change, try_near, try_written, try_types, try_part, try_both, try_signature, try_follows, try_variable, try_importable, try_left_out, try_expected]
 
 
 # Faults
@@ -424,7 +488,18 @@ def misspelt_import(source, tokens, chance):
     return with_text(source, at, at + 1, chance.choice(["", source[at] + "q"]))
 
 
-FAULTS = [of_tokens, of_lines, misspelt, misspelt_import, in_small_letters, declared_again, slipped, slipped, slipped_twice, slipped_twice]
+def elsewhere(source, tokens, chance):
+    """Writes a name in place of a variable that one more module exports, or declares without exporting it."""
+    token = chance.choice([it for it in tokens if it.kind == "variable" and len(it.text) > 2])
+    name = token.text + "'"
+    source = with_text(source, token.start, token.end, name)
+    brace = source.index("{", re.search(r"^module ", source, re.M).end())
+    imports = chance.choice(["", "", " import Elsewhere' ;", " import Elsewhere' () ;", " import qualified Elsewhere' ;"])
+    exports = chance.choice(["", "", " ()"])
+    return with_text(source, brace + 1, brace + 1, imports) + f"\nmodule Elsewhere'{exports} where {{ {name} = {name} }}\n"
+
+
+FAULTS = [of_tokens, of_lines, misspelt, elsewhere, misspelt_import, in_small_letters, declared_again, slipped, slipped, slipped_twice, slipped_twice]
 
 
 def tried(work):

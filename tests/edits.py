@@ -7,6 +7,7 @@ bench/programs. A slip is made by chance: one of tests/claims.py in a name or a 
 - the edits are in the source, in order, and don't overlap;
 - of a note at a part: the source with them can be read, and the definition that the message names is no type fault in it;
 - of a near name: its place has no fault of a name that isn't in scope or without clauses;
+- of an import: its place has no fault of a name that isn't in scope, or that means several things;
 - of a token: the fault of syntax is gone, or further on;
 - the checker accepted those of notes at parts, and no others;
 - the sentence says what to write, and each other sentence has no edits.
@@ -44,8 +45,9 @@ UNCHECKED = {
     "token replaced": "', found '",
     "token left out": "unexpected '",
     "signature": "' without this signature",
+    "import": "', but this module doesn't import '",
 }
-SILENT = ("with another expression here", "with other expressions both here", "if this pattern ", "with one more argument after this", "one more after this", "have types without this signature", "this has type '", "' is a type variable; a type '")
+SILENT = ("with another expression here", "with other expressions both here", "if this pattern ", "with one more argument after this", "one more after this", "have types without this signature", "this has type '", "' is a type variable; a type '", "', but this import doesn't bring '", "' here, but doesn't export it", "' is expected to have type '")
 
 
 def edited(source, edits):
@@ -66,7 +68,7 @@ def kind_of(message):
         if not (message["hint"] or "").endswith("t this can be read."):
             return None
         return next(kind for kind, words in UNCHECKED.items() if kind.startswith("token") and words in text)
-    table = UNCHECKED if message["level"] == "error" or message["kind"] == "signature" else SAYS
+    table = UNCHECKED if message["level"] == "error" or message["kind"] in ("signature", "importable") else SAYS
     return next((kind for kind, words in table.items() if not kind.startswith("token") and any(it in text for it in words.split("|"))), None)
 
 
@@ -91,6 +93,15 @@ def name_fault(message, after):
     return None
 
 
+def import_fault(message, after):
+    """Why an import brings no better name into scope, or None."""
+    start, edit = message["start"], message["edits"][0]
+    byte = start["byte"] + (len(edit["text"]) if edit["start"]["line"] == start["line"] else 0)
+    if not is_read(after) or claims.has_fault(after, start["line"], byte, ("unbound", "ambiguous")):
+        return "the name isn't in scope with the import, or means several things"
+    return None
+
+
 def token_fault(source, changed, message, after):
     """Why the change of a token is none, or None."""
     faults = [it for it in after if not is_read([it])]
@@ -105,7 +116,7 @@ def fault_of(program, source, message):
     if message["level"] == "note" and any(it in message["text"] for it in SILENT):
         return "edits of a note that doesn't say what to write" if edits else None
     if not edits:
-        return "no edits" if kind and kind != "signature" else None
+        return "no edits" if kind and kind not in ("signature", "import") else None
     if kind is None or any(it["checked"] != (kind in SAYS) for it in edits):
         return "edits of another sentence, unchecked, or checked"
     if (changed := edited(source, edits)) is None:
@@ -113,6 +124,8 @@ def fault_of(program, source, message):
     after = claims.ask(program, changed)[1]
     if kind == "near name":
         return name_fault(message, after)
+    if kind == "import":
+        return import_fault(message, after)
     if kind.startswith("token"):
         return token_fault(source, changed, message, after)
     return part_fault(message, after)
@@ -120,7 +133,7 @@ def fault_of(program, source, message):
 
 def slipped(source, chance):
     """Returns the source with one slip."""
-    slip = chance.choice([claims.misspelt, claims.of_tokens, claims.slipped, claims.slipped, None, None])
+    slip = chance.choice([claims.misspelt, claims.of_tokens, claims.elsewhere, claims.slipped, claims.slipped, None, None])
     if slip is not None:
         return slip(source, slips.tokens_of(source), chance)
     sorts = collections.defaultdict(list)

@@ -173,6 +173,13 @@ def is_explained(alone, told, status, wanted):
     return alone.returncode == told.returncode == status and told.stdout == alone.stdout and is_told
 
 
+def with_notes(notes):
+    """Returns a pattern of messages with these notes of expected types, in order, and no others."""
+    others = r"((?!M\.hs:.* is expected to have type ).*\n)*"
+    lines = [re.escape(f"M.hs:1:{column}: note: '{name}' is expected to have type '{text}'\n") for column, name, text in notes]
+    return re.compile(others + "".join(line + others for line in lines))
+
+
 def main():
     differing, count = [], 0
     with tempfile.TemporaryDirectory() as folder:
@@ -190,7 +197,8 @@ def main():
             (f"module M where {{ {items} }}", FAULTY, re.compile(rf"M\.hs:{place}: error: {re.escape(line)}\n(.*\n)*"))
             for items, place, line in messages.DETAILS
         ]
-        for source, status, wanted in [*messages.KINDS, *messages.REASONS, *messages.EXCERPTS, *hints, *details]:
+        types = [(f"module M where {{ {items} }}", FAULTY, with_notes(notes)) for items, notes in messages.EXPECTED]
+        for source, status, wanted in [*messages.KINDS, *messages.REASONS, *messages.EXCERPTS, *hints, *details, *types]:
             (alone, told), count = explain(folder, source), count + 1
             if not is_explained(alone, told, status, wanted):
                 differing.append((["--explain"], [source], told))

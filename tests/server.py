@@ -316,15 +316,17 @@ def fixes_at(it, doc, where):
 
 
 def fix(it):
-    """Asks for fixes of names, of signatures and of brackets, and makes one of each text. B is open."""
+    """Asks for fixes of names, of signatures, of imports and of brackets, and makes one of each text. B is open."""
     doc = {"uri": it.uri("B.hs")}
     near = "module B where { double x = x ; k = doubel 1 ; m = True 'c' ; n = dobule 'd' }\n"
     signed = "module B where { h :: Int -> Bool ; h x = x }\n"
     broken = "module B where { double x = x ; k = (double ; m = doubel 2 }\n"
+    without = "module B where { k = g }\n"
     rows = [
         ("a name with a fault of a later phase behind it", near, "doubel 1", ("write 'double'", ["unbound"], [(between(near, "doubel"), "double")]), ["unbound"]),
         ("a name beside one that is mended", near, "dobule", ("write 'double'", ["unbound"], [(between(near, "dobule"), "double")]), ["unbound"]),
         ("a signature, by the place of its note", signed, "h :: Int", ("write 'h :: a -> a'", ["type"], [(between(signed, "h :: Int -> Bool"), "h :: a -> a")]), []),
+        ("a name of a module that isn't imported", without, "g", ("write ' import A (g) ;'", ["unbound"], [(between(without, " k", 0), " import A (g) ;")]), []),
         ("a bracket of a text that can't be read", broken, " ; m", ("write ')'", ["syntax"], [(between(broken, "; m", 0), ")")]), ["unbound"]),
     ]
     for number, (what, text, part, wanted, left) in enumerate(rows):

@@ -1320,6 +1320,156 @@ KINDS = [
         "                                                            ^^^^\n"
         "errors: 1, skipped modules: 0\n",
     ),
+    # an import whose list leaves the name out
+    (
+        "module A where { area x = x }\n"
+        "module M where { import A () ; f = area }",
+        1,
+        "M.hs:2:36: error: 'area' isn't in scope [unbound]\n"
+        "No declaration, import or parameter gives this name a meaning here.\n"
+        "module M where { import A () ; f = area }\n"
+        "                                   ^^^^\n"
+        "M.hs:2:25: note: 'A' exports 'area', but this import doesn't bring 'area' into scope\n"
+        "module M where { import A () ; f = area }\n"
+        "                        ^\n"
+        "errors: 1, skipped modules: 0\n",
+    ),
+    # an import that hides the name, of Prelude too
+    (
+        "module A where { data T = C }\n"
+        "module M where { import A hiding (T(..)) ; import Prelude hiding (id) ; f = C ; g = id }",
+        1,
+        "M.hs:2:77: error: 'C' isn't in scope [unbound]\n"
+        "No declaration, import or parameter gives this name a meaning here.\n"
+        "module M where { import A hiding (T(..)) ; import Prelude hiding (id) ; f = C ; g = id }\n"
+        "                                                                            ^\n"
+        "M.hs:2:25: note: 'A' exports 'C', but this import doesn't bring 'C' into scope\n"
+        "module M where { import A hiding (T(..)) ; import Prelude hiding (id) ; f = C ; g = id }\n"
+        "                        ^\n"
+        "M.hs:2:85: error: 'id' isn't in scope [unbound]\n"
+        "No declaration, import or parameter gives this name a meaning here.\n"
+        "...le M where { import A hiding (T(..)) ; import Prelude hiding (id) ; f = C ; g = id }\n"
+        "                                                                                   ^^\n"
+        "M.hs:2:51: note: 'Prelude' exports 'id', but this import doesn't bring 'id' into scope\n"
+        "module M where { import A hiding (T(..)) ; import Prelude hiding (id) ; f = C ; g = id }\n"
+        "                                                  ^^^^^^^\n"
+        "errors: 2, skipped modules: 0\n",
+    ),
+    # a qualified import brings only qualified names into scope
+    (
+        "module A where { area x = x }\n"
+        "module M where { import qualified A ; f = area }",
+        1,
+        "M.hs:2:43: error: 'area' isn't in scope [unbound]\n"
+        "No declaration, import or parameter gives this name a meaning here.\n"
+        "module M where { import qualified A ; f = area }\n"
+        "                                          ^^^^\n"
+        "M.hs:2:35: note: 'A' exports 'area', but this import doesn't bring 'area' into scope\n"
+        "module M where { import qualified A ; f = area }\n"
+        "                                  ^\n"
+        "errors: 1, skipped modules: 0\n",
+    ),
+    # an imported module doesn't export the constructor, and another one the variable
+    (
+        "module A (T) where { data T = C }\n"
+        "module B () where { area = () }\n"
+        "module M where { import A ; import B ; f = C ; g = area }",
+        1,
+        "M.hs:3:44: error: 'C' isn't in scope [unbound]\n"
+        "No declaration, import or parameter gives this name a meaning here.\n"
+        "module M where { import A ; import B ; f = C ; g = area }\n"
+        "                                           ^\n"
+        "M.hs:1:31: note: 'A' declares 'C' here, but doesn't export it\n"
+        "module A (T) where { data T = C }\n"
+        "                              ^\n"
+        "M.hs:3:52: error: 'area' isn't in scope [unbound]\n"
+        "No declaration, import or parameter gives this name a meaning here.\n"
+        "module M where { import A ; import B ; f = C ; g = area }\n"
+        "                                                   ^^^^\n"
+        "M.hs:2:21: note: 'B' declares 'area' here, but doesn't export it\n"
+        "module B () where { area = () }\n"
+        "                    ^^^^\n"
+        "errors: 2, skipped modules: 0\n",
+    ),
+    # one import leaves the name out, and the module of another one doesn't export its own
+    (
+        "module A where { area = () }\n"
+        "module B () where { area = () }\n"
+        "module M where { import B ; import A () ; f = area }",
+        1,
+        "M.hs:3:47: error: 'area' isn't in scope [unbound]\n"
+        "No declaration, import or parameter gives this name a meaning here.\n"
+        "module M where { import B ; import A () ; f = area }\n"
+        "                                              ^^^^\n"
+        "M.hs:3:36: note: 'A' exports 'area', but this import doesn't bring 'area' into scope\n"
+        "module M where { import B ; import A () ; f = area }\n"
+        "                                   ^\n"
+        "M.hs:2:21: note: 'B' declares 'area' here, but doesn't export it\n"
+        "module B () where { area = () }\n"
+        "                    ^^^^\n"
+        "errors: 1, skipped modules: 0\n",
+    ),
+    # modules that aren't imported: a variable that two of them export, a type and its constructor of the same name
+    (
+        "module A where { area = () ; data T = T }\n"
+        "module B where { area = () }\n"
+        "module M where { f = area ; g :: T ; g = T }",
+        1,
+        "M.hs:3:22: error: 'area' isn't in scope [unbound]\n"
+        "No declaration, import or parameter gives this name a meaning here.\n"
+        "module M where { f = area ; g :: T ; g = T }\n"
+        "                     ^^^^\n"
+        "M.hs:3:22: note: 'A' exports 'area', but this module doesn't import 'A'\n"
+        "module M where { f = area ; g :: T ; g = T }\n"
+        "                     ^^^^\n"
+        "M.hs:3:22: note: 'B' exports 'area', but this module doesn't import 'B'\n"
+        "module M where { f = area ; g :: T ; g = T }\n"
+        "                     ^^^^\n"
+        "M.hs:3:34: error: 'T' isn't in scope [unbound]\n"
+        "No declaration, import or parameter gives this name a meaning here.\n"
+        "module M where { f = area ; g :: T ; g = T }\n"
+        "                                 ^\n"
+        "M.hs:3:34: note: 'A' exports 'T', but this module doesn't import 'A'\n"
+        "module M where { f = area ; g :: T ; g = T }\n"
+        "                                 ^\n"
+        "M.hs:3:42: error: 'T' isn't in scope [unbound]\n"
+        "No declaration, import or parameter gives this name a meaning here.\n"
+        "module M where { f = area ; g :: T ; g = T }\n"
+        "                                         ^\n"
+        "M.hs:3:42: note: 'A' exports 'T', but this module doesn't import 'A'\n"
+        "module M where { f = area ; g :: T ; g = T }\n"
+        "                                         ^\n"
+        "errors: 3, skipped modules: 0\n",
+    ),
+    # a module that isn't good has no exports: this one imports the faulty module, and so could not be imported
+    (
+        "module A where { import M ; area = () }\n"
+        "module M where { f = area }",
+        1,
+        "M.hs:2:22: error: 'area' isn't in scope [unbound]\n"
+        "No declaration, import or parameter gives this name a meaning here.\n"
+        "module M where { f = area }\n"
+        "                     ^^^^\n"
+        "M.hs:1:25: note: skipped, since 'M' has errors\n"
+        "module A where { import M ; area = () }\n"
+        "                        ^\n"
+        "errors: 1, skipped modules: 1\n",
+    ),
+    # a type isn't meant by a constructor, nor a name with a qualifier
+    (
+        "module A where { data T = C ; area = () }\n"
+        "module M where { f = T ; g = A.area }",
+        1,
+        "M.hs:2:22: error: 'T' isn't in scope [unbound]\n"
+        "No declaration, import or parameter gives this name a meaning here.\n"
+        "module M where { f = T ; g = A.area }\n"
+        "                     ^\n"
+        "M.hs:2:30: error: 'A.area' isn't in scope [unbound]\n"
+        "No declaration, import or parameter gives this name a meaning here.\n"
+        "module M where { f = T ; g = A.area }\n"
+        "                             ^^^^^^\n"
+        "errors: 2, skipped modules: 0\n",
+    ),
     # columns are counted in characters
     (
         "module A where { g x = 'é' : x ; f :: Bool -> [Char] ; f True = g 'ö' ; f False = 'ü' }",
@@ -1851,6 +2001,62 @@ EXCERPTS = [
         2,
         b"M.hs:1:1: error: this comment isn't UTF-8 [lexeme]\nSave the file as UTF-8.\n-- caf\\xe9\n^^\nerrors: 1, skipped modules: 0\n",
     ),
+]
+
+# a module of these declarations, with the notes of expected types: the column, the name and the type of each
+EXPECTED = [
+    # a function, by the signature of its definition
+    ("f :: [Int] -> Int ; f xs = total xs", [(45, "total", "[Int] -> Int")]),
+    # without a signature
+    ("f xs = not (total xs)", [(30, "total", "a -> Bool")]),
+    # an argument
+    ("f :: Int -> Char ; f n = 'c' ; g = f y", [(55, "y", "Int")]),
+    # a value
+    ("f :: Maybe Int ; f = y", [(39, "y", "Maybe Int")]),
+    # a constructor
+    ("f :: Int -> Maybe Int ; f n = Some n", [(48, "Some", "Int -> Maybe Int")]),
+    # beside a near name
+    ("f :: Int -> Maybe Int ; f n = Jsut n", [(48, "Jsut", "Int -> Maybe Int")]),
+    # a name with a qualifier
+    ("f :: Int -> Int ; f n = N.next n", [(42, "N.next", "Int -> Int")]),
+    # a local name under a lambda
+    ("f :: [Int] -> [Bool] ; f xs = map (\\x -> isBig x) xs", [(59, "isBig", "Int -> Bool")]),
+    # in a `where`, with a signature and without: g has its most general type then
+    ("f :: Int -> Bool ; f n = g where { g :: Bool ; g = test n }", [(69, "test", "Int -> Bool")]),
+    ("f :: Int -> Bool ; f n = g where { g = test n }", [(57, "test", "Int -> a")]),
+    # in a local function of every type
+    ("f :: Char -> Bool ; f s = let { h c = good c } in h s", [(56, "good", "a -> b")]),
+    # a condition
+    ("f :: Int -> Int ; f n = if big n then n else 0", [(45, "big", "Int -> Bool")]),
+    # an expression of alternatives
+    ("f :: Int -> Int ; f n = case find n of { Just m -> m ; Nothing -> n }", [(47, "find", "Int -> Maybe Int")]),
+    # in a recursive definition
+    ("f :: Int -> Int ; f n = f (next n)", [(45, "next", "Int -> Int")]),
+    # in a pattern binding
+    ("(a, b) = (not y, 'c')", [(32, "y", "Bool")]),
+    # the letters of the signature
+    ("f :: elem -> [elem] ; f x = wrap x", [(46, "wrap", "elem -> [elem]")]),
+    # two in one definition: what is between them has any type
+    ("f :: Char -> Int ; f c = size (shape c)", [(43, "size", "a -> Int"), (49, "shape", "Char -> a")]),
+    # one name at two types
+    ("f :: Int -> Bool ; f n = test n ; g :: Char -> Bool ; g c = test c", [(43, "test", "Int -> Bool"), (78, "test", "Char -> Bool")]),
+    # a constructor in another definition
+    ("f :: Int -> Int ; f n = next n ; g = Y", [(42, "next", "Int -> Int")]),
+    # the definition is replaced for the constructor, except in the trial of that
+    ("f :: Int -> Maybe Int ; f n = Some (next n)", [(48, "Some", "a -> Maybe Int")]),
+    # and so for the other constructor
+    ("f :: Int -> Maybe Int ; f n = Some (Some n)", []),
+    # every value has a variable for a type
+    ("f = y", []),
+    ("f x = y", []),
+    # a pattern and a type
+    ("f (Y n) = g n ; g :: Int -> Int ; g n = n", []),
+    ("f Y = not True", []),
+    ("f :: T -> Int ; f x = 1", []),
+    # a type fault
+    ("f :: [Int] -> Int ; f xs = total xs ; g = not 'c'", []),
+    # a fault of another kind
+    ("f :: Int -> Int ; f n = next n ; f :: Int -> Int", []),
 ]
 
 # a module of these imports and declarations, with the place of its one fault and the first line of its message

@@ -162,9 +162,9 @@ fn settle<L: Ledger + Naming, G: Gate, W: Wait + Drop, R: Wait>(
     replies_are_known();
     claims_fit_the_room();
     if outcome.is_good() {
-        return match work.shared.publish(rt, pass, number, outcome) {
+        return match work.shared.publish_claimed(rt, pass, number, outcome) {
             Ok(()) => Ok(()),
-            Err((refusal, _)) => Err(fault_of(refusal)),
+            Err(_) => Err(WorkFault::Memory),
         };
     }
     match work.shared.fail(rt, pass, number, outcome) {

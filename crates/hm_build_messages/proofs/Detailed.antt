@@ -48,7 +48,7 @@ looked_up b j f e = settled_with (kept_at b.kept j) f e
 
 -- what is told of faults by a page is told by the pages that it stands among
 pub at_page : (format : MessageFormat) (pages : List Page) (source : ℕ) (page : Page) (p : ModuleSet) (status : ℕ → Status) (i : ℕ) (faults : List Fault) (before after : Bool) (text : List ℕ) → source < length pages → page ≡ get_or pages source page
-    → AreInTurn (IsFaultStated format page.file.now page.lines p status i) faults before after text → AreFaultsStated format (files_in pages) (texts_in pages) source p status i faults before after text
+    → AreInTurn (IsFaultStated format page.file.now page.lines (files_in pages) (texts_in pages) p status i) faults before after text → AreFaultsStated format (files_in pages) (texts_in pages) source p status i faults before after text
 at_page format pages source page p status i faults before after text inside is told =
-    subst (λ (s : List ℕ). AreInTurn (IsFaultStated format (get_or (files_in pages) source []) s p status i) faults before after text) (text_is pages source page inside is)
-    (subst (λ (f : List ℕ). AreInTurn (IsFaultStated format f page.lines p status i) faults before after text) (file_is pages source page inside is) told)
+    subst (λ (s : List ℕ). AreInTurn (IsFaultStated format (get_or (files_in pages) source []) s (files_in pages) (texts_in pages) p status i) faults before after text) (text_is pages source page inside is)
+    (subst (λ (f : List ℕ). AreInTurn (IsFaultStated format f page.lines (files_in pages) (texts_in pages) p status i) faults before after text) (file_is pages source page inside is) told)

@@ -2,7 +2,7 @@ pub mod Beyond
 pub mod Blamed
 pub mod Called
 pub mod Detailed
-pub mod Further
+pub mod Followed
 pub mod Jointly
 pub mod Starting
 pub mod Told

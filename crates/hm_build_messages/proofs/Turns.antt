@@ -45,6 +45,11 @@ pub quiet_turn : {X : Type 0} (P : X → List ℕ → Type 0) (Q : X → Bool �
 quiet_turn P Q f [] before text h = (refl, h)
 quiet_turn P Q f (x ∷ xs) before text h = (h.0, h.1, before, f x before h.0 h.2, quiet_turn P Q f xs before h.1 h.3, h.4)
 
+-- the same for one truth value
+pub quiet_turn_at : {X : Type 0} (P : X → List ℕ → Type 0) (Q : X → Bool → Bool → List ℕ → Type 0) (b : Bool) → ((x : X) (t : List ℕ) → P x t → Q x b b t) → (xs : List X) (text : List ℕ) → AreEach P xs text → AreInTurn Q xs b b text
+quiet_turn_at P Q b f [] text h = (refl, h)
+quiet_turn_at P Q b f (x ∷ xs) text h = (h.0, h.1, b, f x h.0 h.2, quiet_turn_at P Q b f xs h.1 h.3, h.4)
+
 -- the same parts, seen through a view
 pub viewed_turn : {X Y : Type 0} (view : X → Y) (tells : Y → Bool → Bool → List ℕ → Type 0) (xs : List X) (before after : Bool) (text : List ℕ)
     → AreInTurn (λ x b c t. tells (view x) b c t) xs before after text → AreInTurn tells (map view xs) before after text
@@ -84,16 +89,20 @@ alone format file source name fs f after text h =
     let is : text ≡ h.message = h.whole ∙ (ap (λ (l : List ℕ). (h.message ++ h.notes) ++ l) again.1 ∙ (append-nil (h.message ++ h.notes) ∙ (ap (λ (l : List ℕ). h.message ++ l) (h.silent refl) ∙ append-nil h.message))) in
     (again.0, (nothing, subst (IsFaultMessage format file source f nothing) (sym is) h.says))
 
-fault_alone : (format : MessageFormat) (file source : List ℕ) (p : ModuleSet) (status : ℕ → Status) (i : ℕ) (f : Fault) (after : Bool) (text : List ℕ) → IsFaultStated format file source p status i f true after text → (after ≡ true) × IsAlone format file source f text
-fault_alone format file source p status i f after text (inl h) = (h.0, (h.1.known, h.1.stated))
-fault_alone format file source p status i f after text (inr h) = alone format file source _ h.0 f after text h.2
+fault_alone : (format : MessageFormat) (file source : List ℕ) (files texts : List (List ℕ)) (p : ModuleSet) (status : ℕ → Status) (i : ℕ) (f : Fault) (after : Bool) (text : List ℕ)
+    → IsFaultStated format file source files texts p status i f true after text → (after ≡ true) × IsAlone format file source f text
+fault_alone format file source files texts p status i f after text (inl h) =
+    let g = h.1 in
+    let is : text ≡ g.message = g.whole ∙ (ap (λ (l : List ℕ). g.message ++ l) (g.silent refl) ∙ append-nil g.message) in
+    (h.0, (g.says.known, subst (IsFaultMessage format file source f g.says.known) (sym is) g.says.stated))
+fault_alone format file source files texts p status i f after text (inr h) = alone format file source _ h.0 f after text h.2
 
 told_once : (format : MessageFormat) (files texts : List (List ℕ)) (source : ℕ) (p : ModuleSet) (status : ℕ → Status) (i : ℕ) (faults : List Fault) (after : Bool) (text : List ℕ)
     → IsFaultyStated format files texts source p status i faults true after text → (after ≡ true) × AreEach (IsAlone format (get_or files source []) (get_or texts source [])) faults text
 told_once format files texts source p status i faults after text h =
     let file = get_or files source [] in
     let lines = get_or texts source [] in
-    let rest = silent_turn (IsFaultStated format file lines p status i) (IsAlone format file lines) (λ f c t k. fault_alone format file lines p status i f c t k) faults after h.messages h.stated in
+    let rest = silent_turn (IsFaultStated format file lines files texts p status i) (IsAlone format file lines) (λ f c t k. fault_alone format file lines files texts p status i f c t k) faults after h.messages h.stated in
     let is : text ≡ h.messages = h.whole ∙ (ap (λ (l : List ℕ). h.messages ++ l) (h.silent rest.0) ∙ append-nil h.messages) in
     (rest.0, subst (AreEach (IsAlone format file lines) faults) (sym is) rest.1)
 

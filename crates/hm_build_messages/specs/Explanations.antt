@@ -39,6 +39,8 @@ use Rattle.hm_messages_changes.specs.declared.insertions.Insertion.TheVariants.{
 use Rattle.hm_messages_changes.specs.declared.data.SourceRange.{SourceRange}
 use Rattle.hm_run_sources.specs.Names.{name_below}
 use Rattle.hm_run_sources.specs.Origins.{IsSpelledBy}
+use Rattle.hm_build_messages.specs.Exporters.{AreExporterNotesIn, IsFollowed}
+use Rattle.hm_build_messages.specs.Expected.{AreExpectedStatedIn}
 use Rattle.hm_build_messages.specs.Jointly.{AreJointNotes}
 use Rattle.hm_build_messages.specs.PartMessages.{IsPartMessage}
 use Rattle.hm_build_messages.specs.Variables.{AreVariableNotes}
@@ -212,11 +214,12 @@ abbrev pub IsNotedIn : MessageFormat → List ℕ → List ℕ → ModuleSet →
 IsNotedIn format file source p status i f before after text =
     (fs : List Interface) × ArePublished status (imports_of p i) fs × IsNoted format file source (module_at p i).header.name.text fs f before after text
 
--- what is said of a fault of module number i: a message with what is known, or a message with a note. The truth values say whether the limit was stated
--- before the fault, and whether it was said after it
-abbrev pub IsFaultStated : MessageFormat → List ℕ → List ℕ → ModuleSet → (ℕ → Status) → ℕ → Fault → Bool → Bool → List ℕ → Type 0
-IsFaultStated format file source p status i f before after text =
-    ((after ≡ before) × IsDetailed format file source (IsKnownIn p status i) f text) ⊎ IsNotedIn format file source p status i f before after text
+-- what is said of a fault of module number i: a message with what is known, and the notes of modules that have its name, or a message with a note. The truth
+-- values say whether the limit was stated before the fault, and whether it was said after it. Where it was stated before there are no notes
+abbrev pub IsFaultStated : MessageFormat → List ℕ → List ℕ → List (List ℕ) → List (List ℕ) → ModuleSet → (ℕ → Status) → ℕ → Fault → Bool → Bool → List ℕ → Type 0
+IsFaultStated format file source files texts p status i f before after text =
+    ((after ≡ before) × IsFollowed (IsDetailed format file source (IsKnownIn p status i)) (AreExporterNotesIn format file source files texts p status i) before f text)
+    ⊎ IsNotedIn format file source p status i f before after text
 
 -- the text has a part for each element, in order, and no more. The truth value between two parts is the second of the one and the first of the other
 abbrev pub AreInTurn : {X : Type 0} → (X → Bool → Bool → List ℕ → Type 0) → List X → Bool → Bool → List ℕ → Type 0
@@ -227,7 +230,7 @@ AreInTurn says (x ∷ xs) before after text =
 -- of each fault, in order, at its place of this source
 abbrev pub AreFaultsStated : MessageFormat → List (List ℕ) → List (List ℕ) → ℕ → ModuleSet → (ℕ → Status) → ℕ → List Fault → Bool → Bool → List ℕ → Type 0
 AreFaultsStated format files texts source p status i found before after text =
-    AreInTurn (IsFaultStated format (slice_index_or files source []) (slice_index_or texts source []) p status i) found before after text
+    AreInTurn (IsFaultStated format (slice_index_or files source []) (slice_index_or texts source []) files texts p status i) found before after text
 
 -- the note of a fault that the report leaves out, at its place
 abbrev pub IsHiddenNote : MessageFormat → List ℕ → List ℕ → Fault → List ℕ → Type 0
@@ -249,15 +252,17 @@ abbrev pub AreHiddenStatedIn : MessageFormat → List ℕ → List ℕ → Modul
 AreHiddenStatedIn format file source p status i faults text =
     (fs : List Interface) × ArePublished status (imports_of p i) fs × AreHiddenStated format file source (module_at p i).header.name.text fs faults text
 
--- what is said of a faulty module: a message for each of its faults, and after them the notes of those that the report leaves out, or nothing. Where the
--- limit was stated there are no such notes
+-- what is said of a faulty module: a message for each of its faults, and after them the notes of the types that are expected of names, and of the faults that the report leaves
+-- out, or nothing. Where the limit was stated there are no such notes
 pub record IsFaultyStated (format : MessageFormat) (files texts : List (List ℕ)) (source : ℕ) (p : ModuleSet) (status : ℕ → Status) (i : ℕ) (faults : List Fault) (before after : Bool) (text : List ℕ) : Type 0 where
   pub messages : List ℕ
+  pub types : List ℕ
   pub notes : List ℕ
   pub stated : AreFaultsStated format files texts source p status i faults before after messages
+  pub expected : (types ≡ []) ⊎ AreExpectedStatedIn format (slice_index_or files source []) (slice_index_or texts source []) p status i faults types
   pub beyond : (notes ≡ []) ⊎ AreHiddenStatedIn format (slice_index_or files source []) (slice_index_or texts source []) p status i faults notes
-  pub silent : after ≡ true → notes ≡ []
-  pub whole : text ≡ messages ++ notes
+  pub silent : after ≡ true → types ++ notes ≡ []
+  pub whole : text ≡ messages ++ (types ++ notes)
 
 -- an import that a module is skipped for: what it names, the place of the name, and what is said of it
 pub record Blamed : Type 0 where

@@ -1,8 +1,11 @@
+pub mod Expected
 pub mod Explained
+pub mod Exporters
 pub mod Explanations
-pub mod FurtherStated
+pub mod Following
 pub mod Jointly
 pub mod PartMessages
+pub mod Searching
 pub mod Variables
 pub mod WorkedLimits
 pub mod WorkedOrder

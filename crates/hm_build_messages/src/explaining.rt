@@ -4,7 +4,7 @@ ghost use Rattle.std.specs.Prelude.{Bool, ◌≡◌, ◌≤◌, ◌<◌, ◌∷�
 ghost use Rattle.std.specs.Arc.{arc_value};
 ghost use Rattle.hm_messages.specs.Messages.{AreEach};
 ghost use Rattle.hm_messages.specs.Pages.{files_in, texts_in};
-ghost use Rattle.hm_run_sources.specs.Origins.{HaveOrigins, IsSpelledBy};
+ghost use Rattle.hm_run_sources.specs.Origins.{HaveOrigins};
 ghost use Rattle.hm_verdicts.specs.Sets.{IsLawfulSet, no_module};
 ghost use Rattle.hm_verdicts.specs.Reports.{is_skipped, tally};
 ghost use Rattle.hm_syntax.specs.declared.ast.Import.{Import as ImportTree};
@@ -15,6 +15,7 @@ ghost use Rattle.hm_build_reports.specs.Settling.{module_set, status_of as settl
 
 use crate::faulty::Allowance;
 use crate::hidden::all_messages;
+use crate::sources::source_of;
 use crate::view::{BuildView, Faulty};
 use hm_build_reports::Settled;
 use hm_lex::Place;
@@ -187,16 +188,6 @@ fn blame_messages(
         text.extend_from_slice(message.as_slice())?;
     }
     Ok(text)
-}
-
-/// Returns the number of the source that spells a module.
-fn source_of(view: &BuildView<'_, '_, '_>, number: usize) -> usize
-    requires origins { HaveOrigins (texts_in view.now.pages.now.items.items) (length view.now.modules.now) view.now.origins.now }
-    requires number { number < length view.now.modules.now }
-    ensures spelled { IsSpelledBy (texts_in view.now.pages.now.items.items) number result }
-    ensures within { result < length view.now.pages.now.items.items }
-{
-    view.origins[number]
 }
 
 /// Returns the messages of a skipped module that this source spells.

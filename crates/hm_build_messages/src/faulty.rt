@@ -27,6 +27,7 @@ use hm_messages::{BothTypes, Topic, fault_message, message, reader_place};
 use hm_messages_changes::SourceRange;
 use hm_messages_details::Detail;
 use hm_messages_edits::{changes_of, first_part, second_part, signature_changes};
+use hm_messages_exporters::Looks;
 use hm_messages_trials::{
     Effort, Mend, PartTypes, Reading, TypeFault, Unsigned, mend_of, part_types_of, reading_of,
     unsigned_of,
@@ -37,11 +38,12 @@ use std::alloc::{AllocError, Global};
 /// The number of bytes from which on an expression is wide.
 const WIDE: usize = 40;
 
-/// What is left for the notes of a run, and whether one of them said that nothing is.
+/// What is left for the trials of a run and for its searches of names, and whether a note said that no trials are left.
 #[derive(Clone, Copy)]
 pub(crate) struct Allowance {
     pub effort: Effort,
     pub is_limit_stated: bool,
+    pub looks: Looks,
 }
 
 impl Allowance {
@@ -53,6 +55,7 @@ impl Allowance {
         Allowance {
             effort: Effort::of_run(),
             is_limit_stated: false,
+            looks: Looks::of_run(),
         }
     }
 }

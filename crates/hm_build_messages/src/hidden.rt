@@ -1,4 +1,4 @@
-//! The messages of a faulty module: those of its faults, and notes of the faults that the report leaves out because names aren't in scope.
+//! The messages of a faulty module: those of its faults, and notes of expected types and of the faults that the report leaves out because names aren't in scope.
 ghost use Rattle.std.specs.Prelude.{◌≡◌, ◌⊎◌, ◌<◌, IfOk, IfSome, [], length, map, slice_index_or};
 ghost use Rattle.std.specs.Arc.{arc_value};
 ghost use Rattle.hm_messages.specs.Messages.{AreEach};
@@ -7,10 +7,12 @@ ghost use Rattle.hm_build_reports.specs.Settling.{module_set, statuses_of};
 ghost use Rattle.hm_store.specs.Settlements.{settlement};
 ghost use Rattle.hm_messages_hidden.specs.Hidden.{IsVerdictBeyond};
 ghost use Rattle.hm_build_messages.specs.Explanations.{AreHiddenNotes, AreHiddenStated, AreHiddenStatedIn, IsFaultyStated, IsHiddenNote};
+ghost use Rattle.hm_build_messages.specs.Searching.{IsComplete};
 ghost use Rattle.hm_verdicts.specs.Outcomes.{verdict_of};
 ghost use Rattle.hm_verdicts.specs.Sets.{IsLawfulSet};
 
 use crate::detailing::{faulty_messages, published};
+use crate::expected::expected_notes;
 use crate::faulty::Allowance;
 use crate::view::{BuildView, Faulty, FaultyModule};
 use hm_messages::{MessageFormat, Page, Topic, message};
@@ -129,7 +131,7 @@ fn hidden_notes(
     Ok(module_notes(alloc, &module, effort)?)
 }
 
-/// Returns the messages of a faulty module: those of its faults, and after them the notes of the faults that the report leaves out.
+/// Returns the messages of a faulty module: those of its faults, and after them the notes of expected types and of the faults that the report leaves out.
 /// There are no such notes if one said that the limit on trials is reached.
 pub(crate) fn all_messages(
     alloc: Global,
@@ -140,6 +142,7 @@ pub(crate) fn all_messages(
     requires lawful { IsLawfulSet (module_set view.now.modules.now view.now.plan.now) }
     requires number { faulty.number < length view.now.modules.now }
     requires source { faulty.source < length view.now.pages.now.items.items }
+    requires complete { IsComplete view.now faulty.number }
     requires settled { statuses_of view.now.settled.now ≡ settlement view.now.store.now }
     ensures { IfOk result (λ text. IsFaultyStated view.now.pages.now.format (files_in view.now.pages.now.items.items) (texts_in view.now.pages.now.items.items)
         faulty.entry.source (module_set view.now.modules.now view.now.plan.now) (statuses_of view.now.settled.now) faulty.entry.number faulty.entry.faults.now
@@ -149,7 +152,9 @@ pub(crate) fn all_messages(
     if allowance.is_limit_stated {
         return Ok(text);
     }
+    let types = expected_notes(alloc, view, faulty, &mut allowance.effort)?;
     let notes = hidden_notes(alloc, view, faulty, &mut allowance.effort)?;
+    text.extend_from_slice(types.as_slice())?;
     text.extend_from_slice(notes.as_slice())?;
     Ok(text)
 }

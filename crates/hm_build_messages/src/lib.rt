@@ -1,17 +1,19 @@
-//! Makes the messages of a build or of a refused set, with details and notes of its faults.
+//! Makes the messages of a build, with details and notes of its faults.
 #![tactic(auto)]
 
 mod causes;
 mod detailing;
 mod exhausted;
+mod expected;
 mod explaining;
+mod exporters;
 mod faulty;
 mod hidden;
 mod joint;
 pub mod laws;
 mod options;
 mod parts;
-mod refused;
+mod sources;
 mod starts;
 mod topics;
 mod variables;
@@ -20,6 +22,5 @@ mod view;
 pub use crate::exhausted::module_message;
 pub use crate::explaining::explanation;
 pub use crate::options::MessageOptions;
-pub use crate::refused::refused_set_messages;
 pub use crate::starts::starts_of;
 pub use crate::view::BuildView;

@@ -6,6 +6,7 @@ mod exhausted;
 mod listed;
 mod options;
 mod outputs;
+mod refused;
 
 pub use crate::exhausted::exhausted_message;
 pub use crate::options::{Options, RunOptions};

@@ -12,7 +12,7 @@ use Rattle.hm_lex.specs.declared.token.Place.{Place}
 use Rattle.hm_messages_titles.specs.Titles.{fault_title, hidden_title}
 use Rattle.hm_messages.specs.Notices.{notice_of}
 use Rattle.hm_messages.specs.Cuts.{shortened}
-use Rattle.hm_messages.specs.Subjects.{Subject, fault, replaceable, wrapped, too_many_arguments, too_few_arguments, mistyped, unsigned, follows, faulty, skipped, too_long, lexeme, open_comment, too_deep, syntax_fault, too_many, twice, twin, missing, cycle, exhausted, limit, step, hidden, type_variable}
+use Rattle.hm_messages.specs.Subjects.{Subject, fault, replaceable, wrapped, too_many_arguments, too_few_arguments, mistyped, unsigned, follows, faulty, skipped, too_long, lexeme, open_comment, too_deep, syntax_fault, too_many, twice, twin, missing, cycle, exhausted, limit, step, hidden, type_variable, left_out, private, importable, unbound_type}
 use Rattle.hm_messages.specs.declared.topic.Way.{Way}
 use Rattle.hm_messages.specs.declared.topic.Pair.{Pair}
 use Rattle.hm_messages.specs.declared.topic.Pair.TheVariants as pair
@@ -166,6 +166,10 @@ title limit = codes "type errors after this one have no notes: the limit on tria
 title (step x y) = codes "'" ++ x ++ codes "' imports '" ++ y ++ codes "'"
 title (hidden k x) = hidden_title k x
 title (type_variable x t) = codes "'" ++ x ++ codes "' is a type variable; a type '" ++ t ++ codes "' is in scope"
+title (left_out m x) = codes "'" ++ m ++ codes "' exports '" ++ x ++ codes "', but this import doesn't bring '" ++ x ++ codes "' into scope"
+title (private m x) = codes "'" ++ m ++ codes "' declares '" ++ x ++ codes "' here, but doesn't export it"
+title (importable m x) = codes "'" ++ m ++ codes "' exports '" ++ x ++ codes "', but this module doesn't import '" ++ m ++ codes "'"
+title (unbound_type x t) = codes "'" ++ x ++ codes "' is expected to have type '" ++ t ++ codes "'"
 
 -- after an error stands its word, between brackets
 abbrev pub tag : Level → List ℕ → List ℕ

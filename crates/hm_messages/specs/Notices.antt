@@ -11,7 +11,7 @@ use Rattle.hm_verdicts.specs.Reports.{kind_word}
 use Rattle.hm_messages.specs.Sentences.{fault_sentence, types_sentence}
 use Rattle.hm_messages.specs.declared.topic.Way.{Way}
 use Rattle.hm_messages.specs.declared.topic.Way.TheVariants as way
-use Rattle.hm_messages.specs.Subjects.{Subject, fault, replaceable, wrapped, too_many_arguments, too_few_arguments, mistyped, unsigned, follows, faulty, skipped, too_long, lexeme, open_comment, too_deep, syntax_fault, too_many, twice, twin, missing, cycle, exhausted, limit, step, hidden, type_variable}
+use Rattle.hm_messages.specs.Subjects.{Subject, fault, replaceable, wrapped, too_many_arguments, too_few_arguments, mistyped, unsigned, follows, faulty, skipped, too_long, lexeme, open_comment, too_deep, syntax_fault, too_many, twice, twin, missing, cycle, exhausted, limit, step, hidden, type_variable, left_out, private, importable, unbound_type}
 
 -- its level; the report's word for what is wrong, or the word for a sort of note; the name that it is about, if it is about one; the other place that it
 -- names; the rule that is broken or a hint; the type that is expected at a part, and the type that the part or a definition has
@@ -46,6 +46,10 @@ types_notice x expected actual infinite =
 -- a signature without which a definition has a type
 abbrev pub signature_notice : List ℕ → List ℕ → Notice
 signature_notice x own = record { level = Note; kind = codes "signature"; name = Some x; other = None; sentence = []; expected = None; actual = Some own }
+
+-- a name that isn't in scope, with the type that is expected of it
+abbrev pub expected_notice : List ℕ → List ℕ → Notice
+expected_notice x t = record { level = Note; kind = codes "expected"; name = Some x; other = None; sentence = []; expected = Some t; actual = None }
 
 -- the word for a change that gives a definition a type
 abbrev pub way_kind : Way → List ℕ
@@ -88,3 +92,7 @@ notice_of limit = note (codes "limit") None
 notice_of (step x y) = note (codes "import") (Some y)
 notice_of (hidden k x) = note (codes "hidden") (Some x)
 notice_of (type_variable x t) = note (codes "variable") (Some x)
+notice_of (left_out m x) = note (codes "left-out") (Some x)
+notice_of (private m x) = note (codes "private") (Some x)
+notice_of (importable m x) = note (codes "importable") (Some x)
+notice_of (unbound_type x t) = expected_notice x t

@@ -16,7 +16,9 @@ use Rattle.hm_messages.specs.declared.topic.Topic.TheVariants as topic
 -- place, with the type that its definition has without it, or without which that of another name has a type too; a module is skipped for a faulty import, or for a skipped one; why a set is refused, of a syntax fault with the place of another token that the hint
 -- is about, and of an import that names no module with a near name; a module
 -- with the name of a later one; a module that there is no memory to check; the trials of a run are used up; a step of a cycle; a fault that the report leaves out, because names aren't in
--- scope; a type variable, with the name of a type in scope
+-- scope; a type variable, with the name of a type in scope; an import of a module that doesn't bring a name into scope; a module that declares a name and doesn't
+-- export it; a module that exports a name and isn't imported; a name that isn't in scope, with the type that is
+-- expected of it
 pub data Subject : Type 0 where
   fault : Kind → List ℕ → Known → Option Position → Subject
   replaceable : List ℕ → Way → Subject
@@ -43,6 +45,10 @@ pub data Subject : Type 0 where
   step : List ℕ → List ℕ → Subject
   hidden : Kind → List ℕ → Subject
   type_variable : List ℕ → List ℕ → Subject
+  left_out : List ℕ → List ℕ → Subject
+  private : List ℕ → List ℕ → Subject
+  importable : List ℕ → List ℕ → Subject
+  unbound_type : List ℕ → List ℕ → Subject
 
 abbrev pub subject_of : Topic → Subject
 subject_of (topic.Fault k n) = fault k n.name.now (known_of n.detail) n.other
@@ -70,3 +76,7 @@ subject_of topic.Limit = limit
 subject_of (topic.Step x y) = step x.now y.now
 subject_of (topic.Hidden k x) = hidden k x.now
 subject_of (topic.TypeVariable x t) = type_variable x.now t.now
+subject_of (topic.LeftOut m x) = left_out m.now x.now
+subject_of (topic.Private m x) = private m.now x.now
+subject_of (topic.Importable m x) = importable m.now x.now
+subject_of (topic.UnboundType x t) = unbound_type x.now t.now

@@ -75,5 +75,9 @@ pub(crate) fn said_changes(
         Topic::Step(_, _) => Ok(Vec::new(alloc)),
         Topic::Hidden(_, _) => Ok(Vec::new(alloc)),
         Topic::TypeVariable(_, _) => Ok(Vec::new(alloc)),
+        Topic::LeftOut(_, _) => Ok(Vec::new(alloc)),
+        Topic::Private(_, _) => Ok(Vec::new(alloc)),
+        Topic::Importable(_, _) => Ok(Vec::new(alloc)),
+        Topic::UnboundType(_, _) => Ok(Vec::new(alloc)),
     }
 }

@@ -376,6 +376,18 @@ pub(crate) fn title(alloc: Global, topic: &Topic<'_>) -> Result<String, AllocErr
         Topic::TypeVariable(name, ty) => format!(in alloc;
             "'{name}' is a type variable; a type '{ty}' is in scope"
         ),
+        Topic::LeftOut(module, name) => format!(in alloc;
+            "'{module}' exports '{name}', but this import doesn't bring '{name}' into scope"
+        ),
+        Topic::Private(module, name) => format!(in alloc;
+            "'{module}' declares '{name}' here, but doesn't export it"
+        ),
+        Topic::Importable(module, name) => format!(in alloc;
+            "'{module}' exports '{name}', but this module doesn't import '{module}'"
+        ),
+        Topic::UnboundType(name, ty) => format!(in alloc;
+            "'{name}' is expected to have type '{ty}'"
+        ),
     }
 }
 

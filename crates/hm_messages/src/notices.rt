@@ -150,6 +150,27 @@ fn signature_notice<'a>(name: &'a str, own: &'a str) -> Notice<'a>
     }
 }
 
+/// Returns the note of a name that isn't in scope, with the type that is expected of it.
+fn expected_notice<'a>(name: &'a str, expected: &'a str) -> Notice<'a>
+    ensures level { result.level ≡ Note }
+    ensures kind { result.kind.now ≡ codes "expected" }
+    ensures name { option_map (λ x. x.now) result.name ≡ Some name.now }
+    ensures other { result.other ≡ None }
+    ensures sentence { result.sentence.now ≡ [] }
+    ensures expected { option_map (λ x. x.now) result.expected ≡ Some expected.now }
+    ensures actual { option_map (λ x. x.now) result.actual ≡ None }
+{
+    Notice {
+        level: Level::Note,
+        kind: "expected",
+        name: Some(name),
+        other: None,
+        sentence: "",
+        expected: Some(expected),
+        actual: None,
+    }
+}
+
 /// Returns the word for a change that gives a definition a type.
 fn way_kind(way: Way) -> &'static str
     ensures { result.now ≡ way_kind way }
@@ -235,5 +256,9 @@ pub(crate) fn notice_of<'a>(topic: &Topic<'a>) -> Notice<'a>
         Topic::Step(_, import) => note("import", Some(import)),
         Topic::Hidden(_, name) => note("hidden", Some(name)),
         Topic::TypeVariable(name, _) => note("variable", Some(name)),
+        Topic::LeftOut(_, name) => note("left-out", Some(name)),
+        Topic::Private(_, name) => note("private", Some(name)),
+        Topic::Importable(_, name) => note("importable", Some(name)),
+        Topic::UnboundType(name, ty) => expected_notice(name, ty),
     }
 }

@@ -130,4 +130,12 @@ pub enum Topic<'a> {
     Hidden(Kind, &'a str),
     /// The first name is a type variable, and the second one that of a type in scope.
     TypeVariable(&'a str, &'a str),
+    /// An import of the first name's module doesn't bring the second name into scope.
+    LeftOut(&'a str, &'a str),
+    /// The module with the first name declares the second one, and doesn't export it.
+    Private(&'a str, &'a str),
+    /// The module with the first name exports the second one, and isn't imported.
+    Importable(&'a str, &'a str),
+    /// A name that isn't in scope, with the type that is expected of it.
+    UnboundType(&'a str, &'a str),
 }

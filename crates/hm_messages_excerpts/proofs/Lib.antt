@@ -3,4 +3,5 @@ pub mod Around
 pub mod Counting
 pub mod Escaping
 pub mod Places
+pub mod Plain
 mod WorkedPlaces

@@ -3,6 +3,7 @@ ghost use Rattle.std.specs.Prelude.{◌≡◌, ◌+◌, ◌≤◌, ◌^◌, ◌<
 ghost use Rattle.std.specs.Fmt.{is_char_start};
 ghost use Rattle.hm_messages_excerpts.specs.Columns.{AreUnitsOf, characters, units_of, utf16_units};
 
+use bstr::ByteSlice;
 use std::alloc::{AllocError, Global};
 
 // Why: docs/DECISIONS.md, "Columns in characters".
@@ -68,6 +69,12 @@ fn units_in(text: &[u8]) -> Units
     ensures characters { result.characters ≤ length text.now }
     ensures wide { result.wide ≤ length text.now }
 {
+    if text.is_ascii() {
+        return Units {
+            characters: text.len(),
+            wide: 0,
+        };
+    }
     Units {
         characters: characters(text),
         wide: wide_characters(text),

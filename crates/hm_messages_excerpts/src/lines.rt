@@ -10,6 +10,7 @@ use crate::columns::{Columns, Units, columns_at, units_table};
 use crate::cutting::shown_round;
 use crate::excerpt::Excerpt;
 use crate::marks::marked;
+use bstr::ByteSlice;
 use hm_lex::Place;
 use std::alloc::{AllocError, Global};
 use std::marker::Model;
@@ -56,11 +57,10 @@ fn line_len(bytes: &[u8]) -> usize
     ensures plain { IsWithout is_line_end (take result bytes.now) }
     ensures end { result < length bytes.now → slice_index bytes.now result ≡ 10 }
 {
-    let mut len = 0;
-    while len < bytes.len() && bytes[len] != b'\n' {
-        len += 1;
+    match bytes.find_byte(b'\n') {
+        Some(len) => len,
+        None => bytes.len(),
     }
-    len
 }
 
 /// Returns the lines of a source: one more than it has line ends.

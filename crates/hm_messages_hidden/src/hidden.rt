@@ -26,7 +26,7 @@ const COST_OF_DEFINITION: usize = 1 << 6;
 const BYTES_OF_REPLACED: usize = 1 << 4;
 
 /// Returns whether a text is that of a variable without a qualifier.
-fn is_plain_variable(text: &[u8]) -> bool {
+pub fn is_plain_variable(text: &[u8]) -> bool {
     match text.first() {
         Some(first) => {
             (first.is_ascii_lowercase() || *first == b'_') && text.iter().all(|byte| *byte != b'.')
@@ -51,7 +51,14 @@ fn is_first_variable<'a>(seen: &mut HashSet<&'a str>, name: &'a str) -> Result<b
 }
 
 /// Returns the variables without a qualifier of these faults, each once. Returns `None` if one of the faults isn't of a name that isn't in scope.
-fn unbound_in<'a>(alloc: Global, faults: &'a [Fault]) -> Result<Option<Vec<&'a str>>, AllocError>
+///
+/// # Errors
+///
+/// Memory ran out.
+pub fn unbound_in<'a>(
+    alloc: Global,
+    faults: &'a [Fault],
+) -> Result<Option<Vec<&'a str>>, AllocError>
     ensures { IfOk result (λ found. IfSome found (λ names. All (λ n. IsOutOfScope faults.entry.now n.now) names.items)) }
 {
     let mut names = Vec::new(alloc);
@@ -172,8 +179,8 @@ fn is_replaced(source: &[u8], definition: &Other<'_>, faults: &[Fault]) -> bool
     have_unbound(faults, start, end)
 }
 
-/// Returns whether this holds of all of these definitions.
-fn are_replaced(source: &[u8], definitions: &[Other<'_>], faults: &[Fault]) -> bool
+/// Returns whether each of these definitions begins with its name, and has a name that isn't in scope.
+pub fn are_replaced(source: &[u8], definitions: &[Other<'_>], faults: &[Fault]) -> bool
     ensures { result ≡ true → All (IsReplaced source.now faults.now) definitions.now }
 {
     definitions

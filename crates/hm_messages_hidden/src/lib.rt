@@ -4,4 +4,4 @@
 mod hidden;
 pub mod laws;
 
-pub use crate::hidden::hidden_of;
+pub use crate::hidden::{are_replaced, hidden_of, is_plain_variable, unbound_in};

@@ -126,6 +126,11 @@ impl Open {
     }
 }
 
+/// Returns the levels of the trees of a source of this many bytes, at most.
+pub(crate) fn most_levels(bytes: usize) -> usize {
+    bytes / BYTES_PER_LEVEL
+}
+
 /// Returns the levels of the trees of a source, at most. The bound holds for each part that is parsed.
 pub(crate) fn levels_of(source: &[u8]) -> usize {
     let mut open = Open::new();
@@ -139,5 +144,5 @@ pub(crate) fn levels_of(source: &[u8]) -> usize {
     for _ in 0..MAX_BRACKETS {
         open.close();
     }
-    open.here.levels().min(source.len() / BYTES_PER_LEVEL)
+    open.here.levels().min(most_levels(source.len()))
 }

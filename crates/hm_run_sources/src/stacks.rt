@@ -4,7 +4,7 @@ ghost use Rattle.hm_run_sources.specs.Runs.{IsPlanRun};
 
 use crate::Trees;
 use crate::answers::{Answer, plan_answer};
-use crate::nesting::levels_of;
+use crate::nesting::{levels_of, most_levels};
 use hm_run_io::RunFault;
 use std::alloc::Global;
 use std::snapshot::Snapshot;
@@ -18,6 +18,9 @@ const MORE_OF_WORKERS: usize = 11 << 22;
 
 /// The bytes of stack for each level by which sources may nest. docs/DECISIONS.md says how this was found.
 const STACK_PER_LEVEL: usize = 1 << 14;
+
+/// A source of at most this many bytes isn't read: the stacks have room for any source of its length.
+const SHORT: usize = 1 << 13;
 
 /// The number of levels that a type may have for any sources.
 const LEAST_DEPTH: usize = 33 << 10;
@@ -34,12 +37,17 @@ pub struct Nesting {
 
 impl Nesting {
     // Why: docs/DECISIONS.md, "Levels of nesting".
-    /// Measures sources, in one pass over their bytes.
+    /// Measures sources, in one pass over the bytes of those that aren't short.
     pub fn of(sources: &[Vec<u8>]) -> Nesting {
         let mut levels = 0;
         let mut longest = 0;
         for source in sources {
-            levels = levels_of(source.as_slice()).max(levels);
+            let most = most_levels(source.len());
+            if source.len() <= SHORT {
+                levels = most.max(levels);
+            } else if most > levels {
+                levels = levels_of(source.as_slice()).max(levels);
+            }
             longest = source.len().max(longest);
         }
         Nesting { levels, longest }

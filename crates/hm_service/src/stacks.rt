@@ -28,11 +28,13 @@ impl Promise<Result<Checked, ServiceFault>> for CheckOf {
     ghost kept_by = { λ p r. IfOk r (IsCheckOf p.workers p.held.value.unread.items (map (λ s. s.items) p.held.value.texts.items) (map (λ s. s.items) p.held.value.standing.items)) };
 }
 
-/// Returns the bytes of stack for a thread that works on the texts of a held set.
+/// Returns the bytes of stack for a thread that works on the texts of a held set. If all texts can be read, they are the ones that stand for the sources.
 fn stack_for(held: &HeldTexts) -> usize {
-    let unread = Nesting::of(&held.texts).stack_size();
     let standing = Nesting::of(&held.standing).stack_size();
-    unread.max(standing)
+    if held.unread.is_empty() {
+        return standing;
+    }
+    Nesting::of(&held.texts).stack_size().max(standing)
 }
 
 /// Returns what `check_here` returns, from a new thread with a large stack.

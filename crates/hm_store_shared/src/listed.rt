@@ -1,7 +1,7 @@
 //! A store with the list of its publications.
-ghost use Rattle.std.specs.Prelude.{◌≡◌, ◌++◌, ◌∷◌, [], length, not};
+ghost use Rattle.std.specs.Prelude.{◌≡◌, ◌++◌, ◌∷◌, [], None, length, not, true};
 ghost use Rattle.hm_verdicts.specs.Outcomes.{IsGood};
-ghost use Rattle.hm_store.specs.Builds.{IsLegal, after_claim, after_stop, state_of};
+ghost use Rattle.hm_store.specs.Builds.{IsLegal, Refuses, after_claim, after_stop, state_of};
 ghost use Rattle.hm_store_shared.specs.Listings.{FailsIn, IsBuildOf, IsListed, Settled, published_after};
 ghost use Rattle.hm_store.specs.Objects.{reply_of};
 ghost use Rattle.left_right.specs.Handles.{published};
@@ -14,6 +14,14 @@ use hm_verdicts::{Outcome, steps_settle_a_set};
 use left_right::WriteHandle;
 use std::marker::Model;
 use std::sync::Wait;
+
+/// An outcome to publish.
+#[derive(Drop)]
+pub(crate) struct Offered {
+    pub outcome: Outcome,
+    /// Whether a proof says that the store accepts it, so that it isn't tested.
+    pub is_claimed: bool,
+}
 
 /// A store with the list of its publications. The type guarantees that they are those of the journal, and that the store has the modules and the
 /// plan of the ghost name.
@@ -79,6 +87,23 @@ impl<J: Naming> Listed<J> {
         self.store.claim(worker)
     }
 
+    /// Returns why the store refuses an outcome. Doesn't test one that is claimed.
+    fn refusal(
+        &self,
+        worker: usize,
+        number: usize,
+        outcome: &Outcome,
+        is_claimed: bool,
+    ) -> Option<Refusal>
+        requires claimed { is_claimed ≡ true → Refuses self.now.build worker number outcome.now None }
+        ensures { Refuses self.now.build worker number outcome.now result }
+    {
+        if is_claimed {
+            return None;
+        }
+        self.store.refusal(worker, number, outcome)
+    }
+
     // Why: docs/DECISIONS.md, "List before log".
     /// Publishes for look-ups, and then in the store.
     pub(crate) fn publish<R: Wait + Drop>(
@@ -86,14 +111,19 @@ impl<J: Naming> Listed<J> {
         pages: &mut WriteHandle<Published<J>, Step<J>, R>,
         worker: usize,
         number: usize,
-        outcome: Outcome,
+        offered: Offered,
     ) -> Result<(), (Refusal, Outcome)>
-        requires good { IsGood outcome.verdict }
+        requires good { IsGood offered.outcome.verdict }
+        requires claimed { offered.is_claimed ≡ true → Refuses self.old.build worker number offered.outcome None }
         requires same { published pages.old ≡ self.old.published }
-        ensures step { Settled self.old worker number outcome self.new result }
+        ensures step { Settled self.old worker number offered.outcome self.new result }
         ensures same { published pages.new ≡ self.new.published }
     {
-        if let Some(refusal) = self.store.refusal(worker, number, &outcome) {
+        let Offered {
+            outcome,
+            is_claimed,
+        } = offered;
+        if let Some(refusal) = self.refusal(worker, number, &outcome, is_claimed) {
             return Err((refusal, outcome));
         }
         steps_settle_a_set();

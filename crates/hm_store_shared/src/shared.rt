@@ -1,13 +1,13 @@
 //! The store behind a lock, for workers with a pass each.
-ghost use Rattle.std.specs.Prelude.{◌≡◌, ◌≢◌, ◌≤◌, ◌<◌, ◌+◌, ◌^◌, ◌⊎◌, [], ◌∷◌, ◌++◌, All, max, length, not, vec_len, IfOk, IfErr, IfSome, IfNone, ℕ, slice_index_or};
+ghost use Rattle.std.specs.Prelude.{◌≡◌, ◌≢◌, ◌≤◌, ◌<◌, ◌+◌, ◌^◌, ◌⊎◌, [], ◌∷◌, ◌++◌, All, None, max, length, not, true, vec_len, IfOk, IfErr, IfSome, IfNone, ℕ, slice_index_or};
 ghost use mathlib.Core.List.{IsPrefix};
 ghost use Rattle.hm_verdicts.specs.Outcomes.{IsGood};
 ghost use Rattle.hm_store_published.specs.Publications.{IsLawful, interface_in, interface_of};
 ghost use Rattle.hm_store.specs.declared.object.Refusal.TheVariants.{Memory, Stranger};
 ghost use Rattle.left_right.specs.Handles.{published};
-ghost use Rattle.hm_store.specs.Builds.{IsLegal, after_claim, after_stop, state_of};
+ghost use Rattle.hm_store.specs.Builds.{IsLegal, Refuses, after_claim, after_stop, state_of};
 ghost use Rattle.hm_store.specs.declared.object.Entry.TheVariants as entry;
-ghost use Rattle.hm_store_shared.specs.Knowing.{Answers, Begins, Claims, IsStopped, Stops};
+ghost use Rattle.hm_store_shared.specs.Knowing.{Answers, Begins, Claims, HasClaimed, IsStopped, Stops};
 ghost use Rattle.hm_store_shared.specs.Listings.{FailsIn, HasImports, HasPublication, IsBuildOf, IsListed, IsOfSeen, IsWithin, Settled, one_way};
 ghost use Rattle.hm_store.specs.Objects.{reply_of};
 ghost use Rattle.hm_store_shared.specs.Passes.{calls_of, known_of, room_of, seen_of, share_of, worker_of};
@@ -15,7 +15,7 @@ ghost use Rattle.hm_store.specs.Records.{Adds, AddsAt, act_of, replied};
 ghost use Rattle.hm_store.specs.declared.record.Act.TheVariants.{Publish, Fail, Stop};
 
 use crate::dealing::{Crew, SharedFault, Stock, deal};
-use crate::listed::Listed;
+use crate::listed::{Listed, Offered};
 use crate::passes::Pass;
 use hm_store::{Act, Claimed, Entry, Refusal, Store, Turn};
 use hm_store_journal::{Journal, Unnamed};
@@ -121,16 +121,17 @@ impl<L: Ledger + Naming, R: Wait + Drop> Locked<L, R> {
         }
     }
 
-    /// Publishes and records the call.
+    /// Publishes and records the call. Tests the outcome unless it is claimed.
     fn publish_one(
         &mut self,
         pass: &mut Pass<L>,
         number: usize,
-        outcome: Outcome,
+        offered: Offered,
     ) -> Result<(), (Refusal, Outcome)>
         requires room { 0 < room_of pass.old }
-        requires good { IsGood outcome.verdict }
-        ensures settles { Settled self.old.listed (worker_of pass.old) number outcome self.new.listed result }
+        requires good { IsGood offered.outcome.verdict }
+        requires claimed { offered.is_claimed ≡ true → Refuses self.old.listed.build (worker_of pass.old) number offered.outcome None }
+        ensures settles { Settled self.old.listed (worker_of pass.old) number offered.outcome self.new.listed result }
         ensures ok { IfOk result (λ _. AddsAt (length self.old.listed.build.journal) (calls_of pass.old) (Publish number) (calls_of pass.new)) }
         ensures worker { worker_of pass.new ≡ worker_of pass.old }
         ensures room { IfOk result (λ _. room_of pass.new + 1 ≡ room_of pass.old) }
@@ -139,9 +140,9 @@ impl<L: Ledger + Naming, R: Wait + Drop> Locked<L, R> {
         ensures refused_room { IfErr result (λ _. room_of pass.new ≡ room_of pass.old) }
         ensures begins { Begins (worker_of pass.old) (known_of pass.old) self.old.listed.build.journal }
         ensures known { known_of pass.new ≡ self.new.listed.build.journal }
-        ensures returned { IfErr result (λ r. r.1 ≡ outcome) }
+        ensures returned { IfErr result (λ r. r.1 ≡ offered.outcome) }
         ensures seen { seen_of pass.new ≡ seen_of pass.old }
-        ensures published { IfOk result (λ _. interface_in self.new.listed.published number ≡ interface_of outcome.verdict) }
+        ensures published { IfOk result (λ _. interface_in self.new.listed.published number ≡ interface_of offered.outcome.verdict) }
     {
         let Locked {
             listed,
@@ -152,7 +153,7 @@ impl<L: Ledger + Naming, R: Wait + Drop> Locked<L, R> {
         } = self;
         let worker = pass.worker();
         let entries = listed.store().entries();
-        match listed.publish(pages, worker, number, outcome) {
+        match listed.publish(pages, worker, number, offered) {
             Ok(()) => {
                 let entry = Entry::Publish {
                     worker,
@@ -275,34 +276,50 @@ impl<L: Ledger + Naming, R: Wait + Drop> Locked<L, R> {
         Some(turn)
     }
 
-    /// Publishes, records the call, and shows the pass all publications.
+    /// Shows the pass all entries of the journal. Records nothing.
+    fn show_entries(&mut self, pass: &mut Pass<L>)
+        ensures same { self.new.listed ≡ self.old.listed }
+        ensures known { known_of pass.new ≡ self.old.listed.build.journal }
+        ensures begins { Begins (worker_of pass.old) (known_of pass.old) self.old.listed.build.journal }
+        ensures record { (worker_of pass.new ≡ worker_of pass.old) × (calls_of pass.new ≡ calls_of pass.old) × (room_of pass.new ≡ room_of pass.old)
+            × (share_of pass.new ≡ share_of pass.old) }
+        ensures seen { seen_of pass.new ≡ seen_of pass.old }
+    {
+        pass.meet(&mut self.journal);
+    }
+
+    /// Publishes, records the call, and shows the pass all publications. Tests the outcome unless it is claimed.
     fn publish(
         &mut self,
         pass: &mut Pass<L>,
         number: usize,
-        outcome: Outcome,
+        offered: Offered,
     ) -> Result<(), (Refusal, Outcome)>
         requires room { 0 < room_of pass.old }
-        requires good { IsGood outcome.verdict }
-        ensures settles { Settled self.old.listed (worker_of pass.old) number outcome self.new.listed result }
+        requires good { IsGood offered.outcome.verdict }
+        requires fits { offered.is_claimed ≡ true → IsOfSeen L.modules L.plan (seen_of pass.old) number offered.outcome }
+        requires has { offered.is_claimed ≡ true → HasClaimed (worker_of pass.old) (known_of pass.old) number }
+        ensures settles { Settled self.old.listed (worker_of pass.old) number offered.outcome self.new.listed result }
         ensures ok { IfOk result (λ _. AddsAt (length self.old.listed.build.journal) (calls_of pass.old) (Publish number) (calls_of pass.new)) }
         ensures worker { worker_of pass.new ≡ worker_of pass.old }
         ensures room { IfOk result (λ _. room_of pass.new + 1 ≡ room_of pass.old) }
         ensures parts { IfOk result (λ _. (share_of pass.new).parts ≡ (share_of pass.old).parts) }
         ensures err { IfErr result (λ _. (calls_of pass.new ≡ calls_of pass.old) × (share_of pass.new ≡ share_of pass.old)) }
         ensures refused_room { IfErr result (λ _. room_of pass.new ≡ room_of pass.old) }
-        ensures returned { IfErr result (λ r. r.1 ≡ outcome) }
+        ensures returned { IfErr result (λ r. r.1 ≡ offered.outcome) }
         ensures kept { IsPrefix (seen_of pass.old) (seen_of pass.new) }
         ensures told { IsPrefix self.new.listed.published (seen_of pass.new) }
         ensures lawful { IsLawful L.modules L.plan (seen_of pass.new) }
         ensures publication { IfOk result (λ _. (place : ℕ) × AddsAt place (calls_of pass.old) (Publish number) (calls_of pass.new)
-            × HasPublication (seen_of pass.new) number place outcome) }
-        ensures answers { Answers L.modules L.plan (worker_of pass.old) number outcome (entry.Publish (worker_of pass.old) number) (known_of pass.old) (known_of pass.new) result }
-        ensures fits { IsOfSeen L.modules L.plan (seen_of pass.old) number outcome → IfErr result (λ r. r.0 ≢ Stranger) }
-        ensures seen { IfOk result (λ _. interface_in (seen_of pass.new) number ≡ interface_of outcome.verdict) }
+            × HasPublication (seen_of pass.new) number place offered.outcome) }
+        ensures answers { Answers L.modules L.plan (worker_of pass.old) number offered.outcome (entry.Publish (worker_of pass.old) number) (known_of pass.old) (known_of pass.new) result }
+        ensures fits { IsOfSeen L.modules L.plan (seen_of pass.old) number offered.outcome → IfErr result (λ r. r.0 ≢ Stranger) }
+        ensures seen { IfOk result (λ _. interface_in (seen_of pass.new) number ≡ interface_of offered.outcome.verdict) }
+        ensures memory { offered.is_claimed ≡ true → IfErr result (λ r. r.0 ≡ Memory) }
     {
         self.beside(pass);
-        let reply = self.publish_one(pass, number, outcome);
+        self.show_entries(pass);
+        let reply = self.publish_one(pass, number, offered);
         meet(self, pass);
         reply
     }
@@ -498,7 +515,58 @@ impl<L: Ledger + Naming, R: Wait + Drop> Shared<L, R> {
         ensures fits { IsOfSeen L.modules L.plan (seen_of pass.old) number outcome → IfErr result (λ r. r.0 ≢ Stranger) }
         ensures seen { IfOk result (λ _. interface_in (seen_of pass.new) number ≡ interface_of outcome.verdict) }
     {
-        let reply = self.locked.lock(rt).publish(pass, number, outcome);
+        let offered = Offered {
+            outcome,
+            is_claimed: false,
+        };
+        let reply = self.locked.lock(rt).publish(pass, number, offered);
+        self.moved.notify_all();
+        reply
+    }
+
+    // Why: docs/DECISIONS.md, "Claimed outcomes".
+    /// Does what `publish` does, without a test of the outcome: it is that of a module that this worker has claimed, for the interfaces that the pass
+    /// has seen of its imports. So no tree and no interface is compared while the lock is held.
+    ///
+    /// # Errors
+    ///
+    /// `Memory` with the outcome, as for `publish`.
+    pub fn publish_claimed<W: Wait>(
+        &self,
+        rt: &W,
+        pass: &mut Pass<L>,
+        number: usize,
+        outcome: Outcome,
+    ) -> Result<(), (Refusal, Outcome)>
+        requires room { 0 < room_of pass.old }
+        requires good { IsGood outcome.verdict }
+        requires fits { IsOfSeen L.modules L.plan (seen_of pass.old) number outcome }
+        requires has { HasClaimed (worker_of pass.old) (known_of pass.old) number }
+        // Only memory can be missing.
+        ensures memory { IfErr result (λ r. r.0 ≡ Memory) }
+        ensures ok { IfOk result (λ _. Adds (calls_of pass.old) (Publish number) (calls_of pass.new)) }
+        ensures worker { worker_of pass.new ≡ worker_of pass.old }
+        ensures room { IfOk result (λ _. room_of pass.new + 1 ≡ room_of pass.old) }
+        ensures parts { IfOk result (λ _. (share_of pass.new).parts ≡ (share_of pass.old).parts) }
+        // A refused call changes neither the record nor the room.
+        ensures err { IfErr result (λ _. (calls_of pass.new ≡ calls_of pass.old) × (share_of pass.new ≡ share_of pass.old)) }
+        ensures refused_room { IfErr result (λ _. room_of pass.new ≡ room_of pass.old) }
+        ensures returned { IfErr result (λ r. r.1 ≡ outcome) }
+        ensures kept { IsPrefix (seen_of pass.old) (seen_of pass.new) }
+        ensures lawful { IsLawful L.modules L.plan (seen_of pass.new) }
+        // The pass sees this publication, with its outcome and with the place in the journal at which the call is recorded.
+        ensures publication { IfOk result (λ _. (place : ℕ) × AddsAt place (calls_of pass.old) (Publish number) (calls_of pass.new)
+            × HasPublication (seen_of pass.new) number place outcome) }
+        // After a journal that begins with what the worker had seen, the build object takes the outcome, or gives this reason; it gives none for `Memory`.
+        // The worker has then seen this journal, and its entry if the outcome was taken.
+        ensures answers { Answers L.modules L.plan (worker_of pass.old) number outcome (entry.Publish (worker_of pass.old) number) (known_of pass.old) (known_of pass.new) result }
+        ensures seen { IfOk result (λ _. interface_in (seen_of pass.new) number ≡ interface_of outcome.verdict) }
+    {
+        let offered = Offered {
+            outcome,
+            is_claimed: true,
+        };
+        let reply = self.locked.lock(rt).publish(pass, number, offered);
         self.moved.notify_all();
         reply
     }

@@ -29,13 +29,18 @@ const ROWS: [(&str, usize); 15] = [
     ("module A where { data T = C0 | C1 | C2 a b | C3 }", 8),
 ];
 
-/// Appended to each source, because the bound is at most a quarter of a source's bytes.
+/// Appended to each source `TIMES` times, because a source of at most 8,192 bytes isn't read.
 const BLANKS: [u8; 64] = [b' '; 64];
+
+/// How many times blanks are appended.
+const TIMES: usize = 129;
 
 /// Adds a source to others.
 fn add(sources: &mut Vec<Vec<u8>>, alloc: Global, text: &str) -> Result<(), AllocError> {
     let mut source = Vec::from_slice(alloc, text.as_bytes())?;
-    source.extend_from_slice(&BLANKS)?;
+    for _ in 0..TIMES {
+        source.extend_from_slice(&BLANKS)?;
+    }
     sources.push(source)?;
     Ok(())
 }
@@ -51,9 +56,10 @@ fn levels(rt: HostRuntime) -> Result<(), AllocError> {
 }
 
 #[test]
-fn a_quarter_of_the_bytes(rt: HostRuntime) -> Result<(), AllocError> {
+fn a_quarter_of_the_bytes_of_a_short_source(rt: HostRuntime) -> Result<(), AllocError> {
     let mut sources = Vec::new(rt.alloc());
     sources.push(Vec::from_slice(rt.alloc(), b"((((((((")?)?;
+    sources.push(Vec::from_slice(rt.alloc(), b"{ } { }")?)?;
     assert_eq!(rt; Nesting::of(sources.as_slice()).levels(), 2);
     Ok(())
 }
@@ -66,7 +72,7 @@ fn the_deepest_of_several(rt: HostRuntime) -> Result<(), AllocError> {
     }
     let nesting = Nesting::of(sources.as_slice());
     assert_eq!(rt; nesting.levels(), 14);
-    assert_eq!(rt; nesting.longest(), 120);
+    assert_eq!(rt; nesting.longest(), 8312);
     assert!(rt; nesting.stack_size() < nesting.worker_stack_size());
     Ok(())
 }

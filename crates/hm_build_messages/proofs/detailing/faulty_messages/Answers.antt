@@ -1,17 +1,22 @@
-use Rattle.std.proofs.Common.{rules, ◌≡◌, ◌∷◌, ◌∙◌, IfSome, List, ℕ, inl, inr, map, refl, subst, sym}
+use Rattle.std.proofs.Common.{rules, ◌≡◌, ◌∷◌, ◌∙◌, IfSome, List, ℕ, inr, map, subst, sym}
 use Rattle.std.specs.Arc.{arc_value}
+use Rattle.hm_types.specs.Interfaces.{Exports as Interface}
+use Rattle.hm_names.specs.declared.faults.Fault.{Fault}
 use Rattle.hm_messages_details.specs.Details.{IsKnown, nothing}
 use Rattle.hm_types.specs.StandardPrelude.{prelude_interface}
 use Rattle.hm_messages.specs.Messages.{AreEach}
+use Rattle.hm_messages.specs.Pages.{files_in, texts_in}
 use Rattle.hm_messages.specs.declared.pages.Page.{Page}
 use Rattle.hm_build_reports.specs.Settling.{module_set, statuses_of}
 use Rattle.hm_store.specs.Settlements.{settlement}
 use Rattle.hm_verdicts.specs.Sets.{imports_of, module_at}
 use Rattle.hm_verdicts.specs.Verdicts.{ArePublished}
 use Rattle.hm_build_messages.specs.Explanations.{AreInTurn, IsDetailed, IsFaultStated, IsNoted}
+use Rattle.hm_build_messages.specs.Exporters.{AreExporterNotes, IsFollowed}
 use Rattle.hm_build_reports.proofs.Reporting.{name_by_place}
 use Rattle.hm_build_messages.proofs.Detailed.{at_page}
-use Rattle.hm_build_messages.proofs.Turns.{quiet_turn, turn_so}
+use Rattle.hm_build_messages.proofs.Followed.{followed_in, plain_in}
+use Rattle.hm_build_messages.proofs.Turns.{quiet_turn_at, turn_so}
 use Rattle.hm_build_messages.proofs.detailing.faulty_messages.Goals as goal
 
 -- nothing is known of the faults
@@ -25,8 +30,8 @@ returns-in_default c =
     let pages = told.pages.now.items.items in
     let page : Page = c.index-page.result.now in
     at_page told.pages.now.format pages faulty.source page p status faulty.number faulty.faults.now before before c.in_ok-plain_messages.field-0.items c.requires.source (search rules)
-    (quiet_turn (IsDetailed told.pages.now.format page.file.now page.lines (λ f known. known ≡ nothing)) (IsFaultStated told.pages.now.format page.file.now page.lines p status faulty.number)
-    (λ f b t h. inl (refl, record { known = h.known; so = inl h.so; stated = h.stated })) faulty.faults.now before c.in_ok-plain_messages.field-0.items c.in_ok-plain_messages.ensures)
+    (quiet_turn_at (IsDetailed told.pages.now.format page.file.now page.lines (λ f known. known ≡ nothing)) (IsFaultStated told.pages.now.format page.file.now page.lines (files_in pages) (texts_in pages) p status faulty.number) before
+    (plain_in told.pages.now.format page.file.now page.lines (files_in pages) (texts_in pages) p status faulty.number before) faulty.faults.now c.in_ok-plain_messages.field-0.items c.in_ok-plain_messages.ensures)
 
 -- the scope and the trees of the module tell of names and numbers
 pub returns-then-have_details : goal.returns-then-have_details
@@ -44,12 +49,14 @@ returns-then-have_details c =
     subst (λ o. IfSome o (λ interfaces. ArePublished (settlement told.store.now) c.imports.result.now (map arc_value interfaces.items))) c.in-Some.is c.in_ok-imports.ensures in
     let published : ArePublished status (imports_of p number) fs =
     subst (λ s. ArePublished s (imports_of p number) fs) (sym c.requires.settled) (subst (λ row. ArePublished (settlement told.store.now) row fs) c.imports.ensures have) in
-    let each : AreEach (IsDetailed told.pages.now.format page.file.now page.lines (IsKnown (module_at p number) (prelude_interface ∷ fs))) faulty.faults.now c.in_ok-searched_messages.field-0.items =
-    subst (λ l. AreEach (IsDetailed told.pages.now.format page.file.now page.lines (IsKnown (module_at p number) (prelude_interface ∷ map arc_value l))) faulty.faults.now c.in_ok-searched_messages.field-0.items)
-    c.as_slice.ensures.value c.in_ok-searched_messages.ensures in
-    at_page told.pages.now.format pages faulty.source page p status number faulty.faults.now before before c.in_ok-searched_messages.field-0.items c.requires.source (search rules)
-    (quiet_turn (IsDetailed told.pages.now.format page.file.now page.lines (IsKnown (module_at p number) (prelude_interface ∷ fs))) (IsFaultStated told.pages.now.format page.file.now page.lines p status number)
-    (λ f b t h. inl (refl, record { known = h.known; so = inr (fs, published, h.so); stated = h.stated })) faulty.faults.now before c.in_ok-searched_messages.field-0.items each)
+    let text = c.in_ok-searched_messages.field-0.items in
+    let says = λ (l : List Interface) (f : Fault) (t : List ℕ). IsFollowed (IsDetailed told.pages.now.format page.file.now page.lines (IsKnown (module_at p number) l))
+    (AreExporterNotes told.pages.now.format page.file.now page.lines (files_in pages) (texts_in pages) p status number l) before f t in
+    let each : AreEach (says (prelude_interface ∷ fs)) faulty.faults.now text =
+    subst (λ l. AreEach (says (prelude_interface ∷ map arc_value l)) faulty.faults.now text) c.as_slice.ensures.value c.in_ok-searched_messages.ensures in
+    at_page told.pages.now.format pages faulty.source page p status number faulty.faults.now before before text c.requires.source (search rules)
+    (quiet_turn_at (says (prelude_interface ∷ fs)) (IsFaultStated told.pages.now.format page.file.now page.lines (files_in pages) (texts_in pages) p status number) before
+    (followed_in told.pages.now.format page.file.now page.lines (files_in pages) (texts_in pages) p status number fs before published) faulty.faults.now text each)
 
 -- the checker tells of type faults
 pub returns : goal.returns
@@ -71,6 +78,6 @@ returns c =
     let published : ArePublished status (imports_of p number) fs =
     subst (λ s. ArePublished s (imports_of p number) fs) (sym c.requires.settled) (subst (λ row. ArePublished (settlement told.store.now) row fs) c.imports.ensures have) in
     at_page told.pages.now.format pages faulty.source page p status number faulty.faults.now before after c.in_ok-noted_messages.field-0.items c.requires.source (search rules)
-    (turn_so (IsNoted told.pages.now.format page.file.now page.lines name fs) (IsFaultStated told.pages.now.format page.file.now page.lines p status number)
+    (turn_so (IsNoted told.pages.now.format page.file.now page.lines name fs) (IsFaultStated told.pages.now.format page.file.now page.lines (files_in pages) (texts_in pages) p status number)
     (λ f b d t h. inr (fs, published, subst (λ n. IsNoted told.pages.now.format page.file.now page.lines n fs f b d t) named h)) faulty.faults.now before after c.in_ok-noted_messages.field-0.items
     (subst (λ l. AreInTurn (IsNoted told.pages.now.format page.file.now page.lines name (map arc_value l)) faulty.faults.now before after c.in_ok-noted_messages.field-0.items) c.as_slice-2.ensures.value c.in_ok-noted_messages.ensures))

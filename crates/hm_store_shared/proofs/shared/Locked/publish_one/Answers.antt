@@ -11,4 +11,4 @@ returns-in-Ok-clause-published g c =
     let step = c.in-Ok.ensures.step in
     let legal : IsLegal l.build = subst IsLegal c.store.ensures.store c.entries-entries.ensures.legal in
     let listed = c.store.ensures.listed in
-    ap (λ (x : Listing). interface_in x.published c.args.number) step.1 ∙ published_shown l.build l.published _ c.args.number c.args.outcome legal step.0.0 listed
+    ap (λ (x : Listing). interface_in x.published c.args.number) step.1 ∙ published_shown l.build l.published _ c.args.number c.args.offered.outcome legal step.0.0 listed

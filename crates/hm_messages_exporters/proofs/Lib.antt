@@ -1,0 +1,2 @@
+mod Exporting
+mod WorkedExporters
