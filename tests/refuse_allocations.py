@@ -7,12 +7,13 @@ language server too. With TESTS, the tests of the crates `test_calls`, `test_bui
 
 A run of the program, with 1 and with 4 workers, must print the right text and end with the right status, or print nothing, say `hmc: no memory` and
 end with 3, or, where a thread could not be started, say `hmc: no worker` and end with 6. With messages, for readers and for programs, it may also
-leave the note of a type fault out, or its types, or name the module whose check was refused before it says `hmc: no memory`. Of a set whose types grow, the first,
-second, fourth, eighth .. allocation is refused, and of a run with messages and of a session with the server one in some.
+leave out the note of a type fault, its types, or the note on the expected type of a name. Or it names the module whose check was refused before it
+says `hmc: no memory`. Of a set whose types grow, the first, second, fourth, eighth .. allocation is refused, and of a run with messages and of a
+session with the server one in some.
 
-The server must send what it sends where nothing is refused. In place of a reply, or of diagnostics, it may say that there is no memory. Or it sends
-the first messages of that, and ends with 3. A test must pass or end for want of memory, and the call that it is about must have been refused by some
-of the refusals. Ends with 1 where anything else came of a refusal.
+The server must send what it sends where nothing is refused. In place of a reply, or of diagnostics, it may say that there is no memory, and the note
+on the expected type of a name may be left out. Or it sends the first messages of that, and ends with 3. A test must pass or end for want of memory,
+and the call that it is about must have been refused by some of the refusals. Ends with 1 where anything else came of a refusal.
 """
 # Why: docs/DECISIONS.md, "Refused allocations", "Results of refusals".
 import argparse
@@ -125,14 +126,25 @@ def numbers(total, doubles):
 TYPES = b"this has type 'a -> b', but 'a' is expected"
 INFINITE = b"No type is both: it would contain itself, and so be infinite."
 ANOTHER = b"'twice' has a type with another expression here"
+EXPECTED = b"'lenght' is expected to have type '[b] -> a'"
+
+
+def without(messages, part, length):
+    """The messages without those whose first line has this part: so many lines for readers, and one for programs."""
+    lines = messages.splitlines(True)
+    notes = [number for number, line in enumerate(lines) if part in line]
+    lost = {number + more for number in notes for more in range(1 if lines[number].startswith(b"{") else length)}
+    return b"".join(line for number, line in enumerate(lines) if number not in lost)
 
 
 def without_notes(messages):
-    """The messages without the note of a type fault: four lines for readers, and one for programs."""
-    lines = messages.splitlines(True)
-    notes = [number for number, line in enumerate(lines) if TYPES in line]
-    lost = {number + more for number in notes for more in range(1 if lines[number].startswith(b"{") else 4)}
-    return b"".join(line for number, line in enumerate(lines) if number not in lost)
+    """The messages without the note of a type fault."""
+    return without(messages, TYPES, 4)
+
+
+def without_expected_types(messages):
+    """The messages without the note on the expected type of a name."""
+    return without(messages, EXPECTED, 3)
 
 
 def without_types(messages):
@@ -147,7 +159,8 @@ def without_types(messages):
 def ending_of_explained(ran, messages):
     """What came of a run with messages, which are these where nothing is refused; none where it may not end so."""
     if (ran.returncode, ran.stdout) == (1, FAULTY_REPORT):
-        return {messages: "right", without_types(messages): "no types", without_notes(messages): "no note"}.get(ran.stderr)
+        shorter = {without_types(messages): "no types", without_notes(messages): "no note", without_expected_types(messages): "no expected type"}
+        return {messages: "right", **shorter}.get(ran.stderr)
     names_a_module = re.match(rb"(<stdin>:[12]:8: error: there is no memory to check module '[AB]' \[no-memory\]\n(.*\n){3}|\{.*\"no-memory\".*\}\n)hmc: no memory\n\Z", ran.stderr)
     if (ran.returncode, ran.stdout) == (3, b"") and names_a_module:
         return "no memory, with the module"
@@ -206,7 +219,7 @@ def refuse_in_messages(refusing, program):
                 if end is None:
                     print(f"{' '.join(words)}, {workers} workers, allocation {number}: status {ran.returncode}: {ran.stderr[:300]!r}")
             is_right = (first.returncode, first.stdout) == (1, FAULTY_REPORT) and without_notes(first.stderr) != first.stderr
-            well &= is_right and not found["WRONG"] and bool(found["no note"] and found["no memory, with the module"])
+            well &= is_right and not found["WRONG"] and all(found[it] for it in ("no note", "no expected type", "no memory, with the module"))
             print(f"{' '.join(words)}, {workers} workers: {total} allocations: {dict(found)}", flush=True)
     return well
 
@@ -252,12 +265,23 @@ def is_without_memory(message):
     return message.get("error", {}).get("code") == -32603 or message.get("method") == "window/showMessage"
 
 
+def without_expected(message):
+    """A message of the server without the notes on the expected types of names."""
+    if message.get("method") != lsp.PUBLISHED:
+        return message
+    params = message["params"]
+    return {**message, "params": {**params, "diagnostics": [it for it in params["diagnostics"] if it["code"] != "expected"]}}
+
+
 def ending_of_session(ran, messages):
     """What came of a session, which has these messages where nothing is refused; none where it may not end so."""
     found = messages_in(ran.stdout)
     if found is None or len(found) > len(messages) or ran.stderr:
         return None
-    lost = [number for number, (one, other) in enumerate(itertools.zip_longest(found, messages)) if one != other]
+    shorter = [without_expected(it) for it in messages]
+    if ran.returncode == 1 and found == shorter != messages:
+        return "no note"
+    lost = [number for number, (one, other) in enumerate(itertools.zip_longest(found, messages)) if one != other and one != shorter[number]]
     if any(number < len(found) and not is_without_memory(found[number]) for number in lost):
         return None
     # The documents have other texts at the first two questions, so one of these has its reply.
@@ -284,10 +308,10 @@ def refuse_in_server(refusing, server):
     sizes = [len(it["result"]) for it in messages if it.get("id") in (4, 5, 6)]
     renamed = [it["result"]["documentChanges"][0]["edits"] for it in messages if it.get("id") == 7]
     fixes = [[one["title"] for one in it["result"]] for it in messages if it.get("id") == 9]
-    is_right = first.returncode == 1 and ["type Char" in it for it in hovers] == [True, False] and shown == [("file:///B.hs", ["unbound"])]
+    is_right = first.returncode == 1 and ["type Char" in it for it in hovers] == [True, False] and shown == [("file:///B.hs", ["unbound", "expected"])]
     is_right &= sizes == [2, 3, 1] and [len(it) for it in renamed] == [2] and fixes == [["write 'length'"]]
     print(f"the server: {total} allocations: {dict(found)}{'' if is_right else ', FAILS where nothing is refused'}", flush=True)
-    return is_right and not found["WRONG"]
+    return is_right and bool(found["no note"]) and not found["WRONG"]
 
 
 def names_of(tests):
