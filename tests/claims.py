@@ -3,7 +3,8 @@
 
 `claims.py [--sources N] [--seed N] [--processes N] [PROGRAM]`: without PROGRAM, the proved program beside this folder is run. The good sources are those
 of bench/programs. A fault is made by chance: a token left out, given twice, exchanged with the next one or put elsewhere; a line left out; a name with another letter, or taken
-out of scope; a name that another module has; a type or a value of Prelude declared again; a slip in an expression, as bench/slips.py makes them. For each message that a run prints, what can be tried is tried:
+out of scope; a name that another module has; a type or a value of Prelude declared again; a slip in an expression, as bench/slips.py makes them;
+operators and numbers with fractions. For each message that a run prints, what can be tried is tried:
 
 - the change of a token: the source without it can't be read up to there, and with it the fault is gone or further on;
 - a near name: with it no name is unbound or ambiguous at this place, no module is missing, and an import exports it;
@@ -17,6 +18,7 @@ out of scope; a name that another module has; a type or a value of Prelude decla
 - a type variable that is named like a type: with the type's name in its place, this name is in scope;
 - a module that isn't imported, and an import that leaves a name out: with an import of the name, nothing at its place is unbound;
 - a module that doesn't export a variable: it is declared at the place, and can't be imported;
+- a further lexical fault: with blanks in place of the lexemes at those before it, it is the first fault;
 - an expected type: with a definition that has this type as its signature, and with holes as the other unbound variables, the module is good.
 
 Prints how often each was tried, and each claim that is false. Ends with 1 if there is one. The sources are a function of the seed.
@@ -416,7 +418,28 @@ def try_expected(program, source, message):
     return "an expected type"
 
 
-CLAIMS = [try_change, try_near, try_written, try_types, try_part, try_both, try_signature, try_follows, try_variable, try_importable, try_left_out, try_expected]
+FOREIGN = re.compile(r"[!#$%&*+./<=>?@\\^|~:-]+|`[\w'.]+`|\d+\.\d+")
+
+
+def try_later(program, source, message):
+    """Tries a lexical fault that isn't the first of its source."""
+    if message["kind"] != "lexeme":
+        return None
+    blanked = source
+    for earlier in ask(program, source)[1]:
+        if earlier["start"] == message["start"]:
+            break
+        at = offset(source, earlier["start"])
+        lexeme = FOREIGN.match(source, at)[0]
+        blanked = with_text(blanked, at, at + len(lexeme), " " * len(lexeme))
+    if blanked == source:
+        return None
+    if ask(program, blanked)[1][0]["start"] != message["start"]:
+        raise Finding("the first fault with blanks in place of the lexemes before it is another")
+    return "a further lexical fault"
+
+
+CLAIMS = [try_change, try_near, try_written, try_types, try_part, try_both, try_signature, try_follows, try_variable, try_importable, try_left_out, try_later, try_expected]
 
 
 # Faults
@@ -499,7 +522,14 @@ def elsewhere(source, tokens, chance):
     return with_text(source, brace + 1, brace + 1, imports) + f"\nmodule Elsewhere'{exports} where {{ {name} = {name} }}\n"
 
 
-FAULTS = [of_tokens, of_lines, misspelt, elsewhere, misspelt_import, in_small_letters, declared_again, slipped, slipped, slipped_twice, slipped_twice]
+def with_operators(source, tokens, chance):
+    """Puts operators and numbers with fractions in."""
+    for token in sorted(chance.sample(tokens, chance.randrange(1, 6)), key=lambda it: it.start, reverse=True):
+        source = with_text(source, token.end, token.end, chance.choice([" + 1", " ++ []", " - ", " 2.5 ", " $ ", " . ", " == ", "+", "--> "]))
+    return source
+
+
+FAULTS = [of_tokens, of_lines, misspelt, elsewhere, with_operators, misspelt_import, in_small_letters, declared_again, slipped, slipped, slipped_twice, slipped_twice]
 
 
 def tried(work):

@@ -95,9 +95,27 @@ module C where { = }
                  ^
 <stdin>:1:22: error: the operator '#' isn't supported: the only one is ':' [lexeme]
 A comment begins with `--`.
-module D where { z = # }
+module D where { z = # ! }
                      ^
-errors: 2, skipped modules: 0
+<stdin>:1:24: error: the operator '!' isn't supported: the only one is ':' [lexeme]
+Define a function with a name, and write it before its arguments.
+module D where { z = # ! }
+                       ^
+errors: 3, skipped modules: 0
+"""
+LATER_FAULTS = """<stdin>:1:22: error: the operator '#' isn't supported: the only one is ':' [lexeme]
+A comment begins with `--`.
+module D where { z = # ! }
+                     ^
+<stdin>:1:24: error: the operator '!' isn't supported: the only one is ':' [lexeme]
+Define a function with a name, and write it before its arguments.
+module D where { z = # ! }
+                       ^
+bad.hs:1:18: error: expected ';', found '=' [syntax]
+With it this can be read.
+module C where { = }
+                 ^
+errors: 3, skipped modules: 0
 """
 MISSING = """a.hs:1:25: error: no module 'B' is given [missing]
 An import names a module of the set or `Prelude`; there is no other library.
@@ -177,7 +195,7 @@ ROWS = {
         "refused: module A imports missing B\n",
         MISSING + "errors: 1, skipped modules: 0\n",
     ),
-    "messages of two faulty sources": (["--explain", "bad.hs", "b.hs", "-"], "module D where { z = # }", 2, "refused: source 1 at 1:18: syntax\n", TWO_FAULTS),
+    "messages of two faulty sources": (["--explain", "bad.hs", "b.hs", "-"], "module D where { z = # ! }", 2, "refused: source 1 at 1:18: syntax\n", TWO_FAULTS),
     "a long name in a message": (["--explain"], f"module A where {{ data {'b' * 2000} }}", 2, "refused: source 1 at 1:23: syntax\n", LONG_NAME),
     "a name in a text of 1,000 bytes": (["--explain"], f"module A where {{ data {'b' * 960} }}", 2, "refused: source 1 at 1:23: syntax\n", WHOLE_NAME),
     "a long name in an object": (["--message-format", "json"], f"module A where {{ data {'b' * 2000} }}", 2, "refused: source 1 at 1:23: syntax\n", LONG_OBJECT),
@@ -199,7 +217,8 @@ ROWS = {
     ),
     "messages of a plan": (["--plan", "--explain"], A + B, 0, PLAN, ""),
     "messages of a refused plan": (["--plan", "-e", "a.hs"], "", 2, "refused: module A imports missing B\n", MISSING + "errors: 1, skipped modules: 0\n"),
-    "messages of a plan of two faulty sources": (["--plan", "-e", "bad.hs", "b.hs", "-"], "module D where { z = # }", 2, "refused: source 1 at 1:18: syntax\n", TWO_FAULTS),
+    "messages of further faults, the refused source first": (["--explain", "-", "b.hs", "bad.hs"], "module D where { z = # ! }", 2, "refused: source 1 at 1:22: lexeme\n", LATER_FAULTS),
+    "messages of a plan of two faulty sources": (["--plan", "-e", "bad.hs", "b.hs", "-"], "module D where { z = # ! }", 2, "refused: source 1 at 1:18: syntax\n", TWO_FAULTS),
     "messages of a plan, quiet": (["--plan", "-eq", "a.hs"], "", 2, "", MISSING + "errors: 1, skipped modules: 0\n"),
     "objects of a plan": (["--plan", "--message-format", "json", "a.hs", "b.hs"], "", 0, PLAN, '{"errors":0,"format":1,"level":"end","skipped":0}\n'),
     "messages of a plan of no such file": (["--plan", "-e", "none.hs"], "", 4, "", cannot_open("none.hs")),

@@ -1829,6 +1829,56 @@ REASONS = [
         "                       ^\n"
         "errors: 1, skipped modules: 0\n",
     ),
+    # further lexical faults: an operator in a string or a comment is none, and after a string without an end there is none
+    (
+        "module M where {\n  f x y = x ++ y `M.or` 2.5 {- + -} ; s = \"a + b\" -- + c\n  ; t = 'a' +'b' ; u = \"open\n  ; v = 1 + 2 }",
+        2,
+        "M.hs:2:13: error: the operator '++' isn't supported: the only one is ':' [lexeme]\n"
+        "Write `concat [xs, ys]` for `xs ++ ys`.\n"
+        "  f x y = x ++ y `M.or` 2.5 {- + -} ; s = \"a + b\" -- + c\n"
+        "            ^^\n"
+        "M.hs:2:18: error: a function between backquotes isn't supported [lexeme]\n"
+        "Write it before its arguments: `f x y`.\n"
+        "  f x y = x ++ y `M.or` 2.5 {- + -} ; s = \"a + b\" -- + c\n"
+        "                 ^\n"
+        "M.hs:2:25: error: numbers with a fraction or an exponent aren't supported [lexeme]\n"
+        "All numbers are of type Int.\n"
+        "  f x y = x ++ y `M.or` 2.5 {- + -} ; s = \"a + b\" -- + c\n"
+        "                        ^^^\n"
+        "M.hs:3:13: error: the operator '+' isn't supported: the only one is ':' [lexeme]\n"
+        "There is no arithmetic: declare a function, such as `plus :: Int -> Int -> Int ; plus = undefined`.\n"
+        "  ; t = 'a' +'b' ; u = \"open\n"
+        "            ^\n"
+        "M.hs:3:24: error: this string isn't closed on its line [lexeme]\n"
+        "Write `\"` at its end.\n"
+        "  ; t = 'a' +'b' ; u = \"open\n"
+        "                       ^\n"
+        "errors: 5, skipped modules: 0\n",
+    ),
+    # a number with an exponent and a lone backquote end the search, and so do 20 further faults
+    *(
+        (
+            f"module M where {{ f = 1 % {text} % 2 }}",
+            2,
+            "M.hs:1:24: error: the operator '%' isn't supported: the only one is ':' [lexeme]\n"
+            "Define a function with a name, and write it before its arguments.\n"
+            f"module M where {{ f = 1 % {text} % 2 }}\n"
+            "                       ^\n"
+            f"M.hs:1:26: error: {first} [lexeme]\n{second}\n"
+            f"module M where {{ f = 1 % {text} % 2 }}\n"
+            f"                         {mark}\n"
+            "errors: 2, skipped modules: 0\n",
+        )
+        for text, first, second, mark in (
+            ("2.5e3", "numbers with a fraction or an exponent aren't supported", "All numbers are of type Int.", "^^^^^"),
+            ("`div 2", "a function between backquotes isn't supported", "Write it before its arguments: `f x y`.", "^"),
+        )
+    ),
+    (
+        "module M where {\n" + "# ;\n" * 30 + "}",
+        2,
+        "".join(f"M.hs:{n}:1: error: the operator '#' isn't supported: the only one is ':' [lexeme]\nA comment begins with `--`.\n# ;\n^\n" for n in range(2, 23)) + "errors: 21, skipped modules: 0\n",
+    ),
     (
         "module M where { {- }",
         2,

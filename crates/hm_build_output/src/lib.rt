@@ -3,6 +3,7 @@
 
 mod answers;
 mod exhausted;
+mod later;
 mod listed;
 mod options;
 mod outputs;

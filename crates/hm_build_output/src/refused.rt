@@ -1,21 +1,22 @@
-//! The messages of a refused set: of the fault for which it is refused, and of the first fault of each further source.
-ghost use Rattle.std.specs.Prelude.{◌≡◌, ◌+◌, ◌<◌, ◌≤◌, ℕ, List, Option, IfNone, IfOk, IfSome, drop, length, map, option_map};
+//! The messages of a refused set: of the fault for which it is refused, and of the faults of each further source.
+ghost use Rattle.std.specs.Prelude.{◌≡◌, ◌+◌, ◌++◌, ◌<◌, ◌≤◌, ℕ, List, IfNone, IfOk, IfSome, OnOk, drop, length, map};
 ghost use Rattle.hm_messages.specs.Foreign.{IsForeign, IsNumbered};
-ghost use Rattle.hm_messages.specs.FurtherFaults.{AreFirstFaults, AreFurtherFaults, IsFirstFault};
+ghost use Rattle.hm_messages.specs.FurtherFaults.{AreFurtherFaults, AreSourceFaults, IsFirstFault};
 ghost use Rattle.hm_messages.specs.Messages.{AreEach};
 ghost use Rattle.hm_messages.specs.Pages.{files_in, texts_in};
 ghost use Rattle.hm_messages.specs.Refused.{AreRefusalMessages, IsAdvised};
-ghost use Rattle.hm_build_output.specs.FurtherStated.{IsFirstStated};
+ghost use Rattle.hm_build_output.specs.FurtherStated.{AreFaultsStated, AreLaterOf};
 ghost use Rattle.hm_build_messages.specs.Explained.{StatesRefusal};
 ghost use Rattle.hm_run_sources.specs.Origins.{AreHeadersFor};
 ghost use Rattle.hm_run_sources.specs.Refusals.{Refusal};
 ghost use Rattle.hm_run_sources.specs.Runs.{IsRefusalOf};
 
+use crate::later::{NO_ADVICE, later_messages};
 use hm_build_messages::MessageOptions;
 use hm_messages::{
     MessageFault, Messages, Pages, count_text, pages_of, refusal_messages, source_message,
 };
-use hm_messages_hints::{Advice, SyntaxHint};
+use hm_messages_hints::Advice;
 use hm_messages_repairs::{Search, advice_at};
 use hm_parse_grammar::ParseFault;
 use hm_run_sources::{
@@ -23,16 +24,18 @@ use hm_run_sources::{
 };
 use std::alloc::{AllocError, Global};
 
-/// The advice for faults that aren't of syntax.
-const NO_ADVICE: Advice<'static> = Advice {
-    hint: SyntaxHint::Unexpected,
-    text: "",
-    elsewhere: None,
-};
-
 // Why: docs/DECISIONS.md, "Further sources".
 /// The most bytes of further sources in which changes are tried.
 const MOST_TRIED: usize = 1 << 17;
+
+/// How many bytes a run has read again for the messages of a refusal.
+#[derive(Drop)]
+struct Effort {
+    /// Those of further sources in which changes have been tried.
+    tried: usize,
+    /// Those that have been lexed for faults after the first one of a source.
+    lexed: usize,
+}
 
 /// Returns the advice for a fault of syntax. It says nothing about other faults.
 fn advice_on<'a>(
@@ -81,55 +84,75 @@ fn search_in(tried: &mut usize, bytes: usize) -> Search {
     }
 }
 
-/// Returns the message of the first fault of a source, counted from 0, if it has any.
-fn first_message(
+/// Adds messages to others.
+fn add(all: &mut Messages, more: &Messages) -> Result<(), AllocError>
+    ensures text { OnOk result (all.new.text.items ≡ all.old.text.items ++ more.now.text.items) }
+    ensures errors { OnOk result (all.new.errors ≡ all.old.errors + more.now.errors) }
+{
+    let Some(errors) = all.errors.checked_add(more.errors) else {
+        return Err(AllocError);
+    };
+    all.text.extend_from_slice(more.text.as_slice())?;
+    all.errors = errors;
+    Ok(())
+}
+
+/// Returns the messages of the faults of a source, counted from 0.
+fn fault_messages(
     alloc: Global,
     pages: &Pages<'_>,
     sources: &[Vec<u8>],
     source: usize,
-    tried: &mut usize,
-) -> Result<Option<Vec<u8>>, AllocError>
+    effort: &mut Effort,
+) -> Result<Messages, AllocError>
     requires within { source < length sources.now }
     requires texts { texts_in pages.now.items.items ≡ map (λ s. s.items) sources.now }
-    ensures { IfOk result (λ m. IsFirstStated pages.now.format (files_in pages.now.items.items) (texts_in pages.now.items.items) source
-        (option_map (λ text. text.items) m)) }
+    ensures { IfOk result (λ view. AreFaultsStated pages.now.format (files_in pages.now.items.items) (texts_in pages.now.items.items) source
+        view.errors view.text.items) }
 {
-    let text = sources[source].as_slice();
-    let Some(fault) = first_fault(alloc, source + 1, text)? else {
-        return Ok(None);
+    let bytes = sources[source].as_slice();
+    let Some(fault) = first_fault(alloc, source + 1, bytes)? else {
+        return Ok(Messages {
+            text: Vec::new(alloc),
+            errors: 0,
+        });
     };
-    let search = search_in(tried, text.len());
+    let search = search_in(&mut effort.tried, bytes.len());
     let advice = advice_on(alloc, sources, &fault, search)?;
-    match source_message(alloc, pages, &fault, advice) {
-        Ok(message) => Ok(Some(message)),
-        Err(MessageFault::Memory) => Err(AllocError),
+    let text = match source_message(alloc, pages, &fault, advice) {
+        Ok(text) => text,
+        Err(MessageFault::Memory) => return Err(AllocError),
         Err(MessageFault::Foreign) => unreachable!(),
-    }
+    };
+    let mut all = Messages { text, errors: 1 };
+    let later = later_messages(alloc, pages, &fault, &mut effort.lexed)?;
+    add(&mut all, &later)?;
+    Ok(all)
 }
 
-/// Returns the messages of the first faults of the sources from this one on, counted from 0.
+/// Returns the messages of the faults of the sources from this one on, counted from 0.
 fn further_messages(
     alloc: Global,
     pages: &Pages<'_>,
     sources: &[Vec<u8>],
     from: usize,
+    effort: &mut Effort,
 ) -> Result<Messages, AllocError>
     requires within { from ≤ length sources.now }
     requires texts { texts_in pages.now.items.items ≡ map (λ s. s.items) sources.now }
-    ensures { IfOk result (λ view. (faults : List Refusal) × AreFirstFaults (from + 1) (drop from (texts_in pages.now.items.items)) faults
+    ensures { IfOk result (λ view. (faults : List Refusal) × AreSourceFaults (from + 1) (drop from (texts_in pages.now.items.items)) faults
         × AreEach (λ r t. AreRefusalMessages pages.now.format (files_in pages.now.items.items) (texts_in pages.now.items.items) r 1 t) faults view.text.items
         × (view.errors ≡ length faults)) }
 {
-    let mut text = Vec::new(alloc);
-    let mut errors = 0;
-    let mut tried = 0;
+    let mut all = Messages {
+        text: Vec::new(alloc),
+        errors: 0,
+    };
     for source in from..sources.len() {
-        if let Some(message) = first_message(alloc, pages, sources, source, &mut tried)? {
-            text.extend_from_slice(message.as_slice())?;
-            errors += 1;
-        }
+        let messages = fault_messages(alloc, pages, sources, source, effort)?;
+        add(&mut all, &messages)?;
     }
-    Ok(Messages { text, errors })
+    Ok(all)
 }
 
 /// Returns the number of the first source after that of a fault, counted from 0. If the plan has the fault, it is the number of sources. Returns
@@ -137,8 +160,8 @@ fn further_messages(
 fn first_after(fault: &SetFault, sources: usize) -> Option<usize>
     ensures within { IfSome result (λ from. from ≤ sources) }
     ensures numbered { IfSome result (λ from. (texts : List (List ℕ)) → length texts ≡ sources → IsNumbered texts fault.now) }
-    ensures further { IfSome result (λ from. (texts : List (List ℕ)) (faults : List Refusal) → length texts ≡ sources
-        → AreFirstFaults (from + 1) (drop from texts) faults → AreFurtherFaults texts fault.now faults) }
+    ensures further { IfSome result (λ from. (texts : List (List ℕ)) (own more : List Refusal) → length texts ≡ sources → AreLaterOf texts fault.now own
+        → AreSourceFaults (from + 1) (drop from texts) more → AreFurtherFaults texts fault.now (own ++ more)) }
     ensures foreign { IfNone result ((texts : List (List ℕ)) → length texts ≡ sources → IsForeign texts fault.now) }
 {
     match &fault.kind {
@@ -189,13 +212,14 @@ pub(crate) fn refused_set_messages<'a>(
     };
     let pages = pages_of(alloc, explain.format, sources, &explain.names, &[])?;
     let advice = advice_on(alloc, sources, &refused.fault, Search::Changes)?;
-    let Messages { mut text, errors } = own_messages(alloc, &pages, refused, advice)?;
-    let further = further_messages(alloc, &pages, sources, from)?;
-    let Some(all) = errors.checked_add(further.errors) else {
-        return Err(AllocError);
-    };
-    text.extend_from_slice(further.text.as_slice())?;
-    let counts = count_text(alloc, explain.format, all, 0)?;
+    let mut all = own_messages(alloc, &pages, refused, advice)?;
+    let mut effort = Effort { tried: 0, lexed: 0 };
+    let later = later_messages(alloc, &pages, &refused.fault, &mut effort.lexed)?;
+    add(&mut all, &later)?;
+    let further = further_messages(alloc, &pages, sources, from, &mut effort)?;
+    add(&mut all, &further)?;
+    let counts = count_text(alloc, explain.format, all.errors, 0)?;
+    let Messages { mut text, .. } = all;
     text.extend_from_slice(counts.as_bytes())?;
     Ok(text)
 }

@@ -1,6 +1,6 @@
 -- The worked examples of further faults, and of modules of one name.
 use Rattle.std.specs.Prelude.{⊤, codes}
-use Rattle.std.proofs.Common.{◌≡◌, ◌∙◌, ℕ, List, [], ◌∷◌, None, Some, ap, arith, refl, subst, sym}
+use Rattle.std.proofs.Common.{◌≡◌, ◌∙◌, ℕ, List, [], ◌∷◌, ap, arith, refl, subst, sym}
 use Rattle.std.proofs.lemmas.List.Elements.{All-cons, All-nil}
 use Rattle.hm_lex.specs.declared.token.LexFault.TheVariants.{Lexeme}
 use Rattle.hm_run_sources.specs.Refusals.{Refusal, lex}
@@ -13,8 +13,9 @@ HasAny (r ∷ rs) = ⊤
 
 pub worked_faults : FurtherRow
 worked_faults = record {
-  third = λ s t modules p spelled refused. (None, lex 3 (Lexeme p) ∷ [], (modules, spelled), (Some (lex 3 (Lexeme p)), [], ((refl, refused), tt), refl, refl), refl);
+  third = λ s t modules p spelled refused. ([], lex 3 (Lexeme p) ∷ [], (modules, spelled), (lex 3 (Lexeme p) ∷ [], [], (((refl, refused), tt), ([], tt, refl)), refl, refl), refl);
   none_left = λ p e. subst HasAny e tt;
+  none_after = λ s p q e. subst HasAny e tt;
 }
 
 first_letter : List ℕ → ℕ

@@ -186,7 +186,7 @@ pub record AreRefusalMessages (format : MessageFormat) (files sources : List (Li
   pub followed : IsRestStated format files sources refusal number place errors rest
   pub whole : text ≡ first ++ rest
 
--- these messages, then one for the first fault of each further source, and the counts. No module is skipped
+-- these messages, then one for each further fault of the sources, and the counts. No module is skipped
 pub record IsRefusalStated (format : MessageFormat) (files sources : List (List ℕ)) (refusal : Refusal) (text : List ℕ) : Type 0 where
   pub messages : List ℕ
   pub errors : ℕ

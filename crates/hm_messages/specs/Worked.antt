@@ -8,14 +8,15 @@ use Rattle.hm_lex.specs.declared.token.LexFault.TheVariants.{Lexeme}
 use Rattle.hm_syntax.specs.declared.ast.Import.{Import}
 use Rattle.hm_syntax.specs.declared.ast.Module.{Module}
 use Rattle.hm_run_sources.specs.Origins.{AreLocated}
-use Rattle.hm_run_sources.specs.Refusals.{lex}
+use Rattle.hm_parse_grammar.specs.declared.fault.ParseFault.TheVariants.{Syntax}
+use Rattle.hm_run_sources.specs.Refusals.{lex, parse}
 use Rattle.hm_run_sources.specs.SourceModules.{HasModules}
 use Rattle.hm_run_sources.specs.declared.located.Located.{Located}
 use Rattle.hm_messages_details.specs.Nearness.{AreNear}
 use Rattle.hm_messages_json.specs.declared.message.Position.{Position}
 use Rattle.hm_messages.specs.Cuts.{shortened}
 use Rattle.hm_messages.specs.Foreign.{IsForeign}
-use Rattle.hm_messages.specs.FurtherFaults.{AreFirstFaults}
+use Rattle.hm_messages.specs.FurtherFaults.{AreLaterFaults, AreSourceFaults}
 use Rattle.hm_messages.specs.Headings.{further_text}
 use Rattle.hm_messages.specs.Messages.{IsMessage}
 use Rattle.hm_messages.specs.Missing.{HasNearModule, IsImportable}
@@ -37,10 +38,12 @@ pub record ForeignRow : Type 0 where
   pub no_number : (s t : List ℕ) (p : Place) → IsForeign (s ∷ t ∷ []) (lex 0 (Lexeme p))
   pub second : (s t : List ℕ) (p : Place) → ¬ (IsForeign (s ∷ t ∷ []) (lex 2 (Lexeme p)))
 
--- the second source spells modules, and the third has text that is no lexeme: its fault is that of source 3. Where no source is left, there is none
+-- the second source spells modules, and the third has text that is no lexeme: its fault is that of source 3. Where no source is left, there is none. No fault
+-- follows one of syntax in its source
 pub record FurtherRow : Type 0 where
-  pub third : (s t : List ℕ) (modules : List Module) (p : Place) → HasModules s modules → IsRefusal t (Lexeme p) → AreFirstFaults 2 (s ∷ t ∷ []) (lex 3 (Lexeme p) ∷ [])
-  pub none_left : (p : Place) → ¬ (AreFirstFaults 2 [] (lex 2 (Lexeme p) ∷ []))
+  pub third : (s t : List ℕ) (modules : List Module) (p : Place) → HasModules s modules → IsRefusal t (Lexeme p) → AreSourceFaults 2 (s ∷ t ∷ []) (lex 3 (Lexeme p) ∷ [])
+  pub none_left : (p : Place) → ¬ (AreSourceFaults 2 [] (lex 2 (Lexeme p) ∷ []))
+  pub none_after : (s : List ℕ) (p q : Place) → ¬ (AreLaterFaults s (parse 3 (Syntax p)) (lex 3 (Lexeme q) ∷ []))
 
 -- Prelude is a near name, and so is the only module of the sources, if it has no imports. A module that imports Lists isn't one of Lists, and a set of no sources has no module List
 pub record NearModuleRow : Type 0 where

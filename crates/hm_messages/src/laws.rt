@@ -8,7 +8,7 @@ pub fn refusals_are_theirs()
     ensures { HasNoForeignRefusal }
 {}
 
-/// The first faults of two further sources, and of none.
+/// The faults of two further sources, of none, and after a fault of syntax.
 #[tactic(auto, using(crate::proofs::WorkedFaults::worked_faults))]
 pub fn worked_faults()
     ensures { FurtherRow }

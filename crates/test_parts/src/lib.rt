@@ -8,6 +8,8 @@ mod groups;
 #[cfg(test)]
 mod hints;
 #[cfg(test)]
+mod lexemes;
+#[cfg(test)]
 mod nesting;
 #[cfg(test)]
 mod plans;
