@@ -1,3 +1,4 @@
+mod Errors
 mod Held
 mod Named
 mod Refusing

@@ -1,5 +1,9 @@
 -- When a check has all names of a set, when another one is as good, and which set has given texts.
-use Rattle.std.specs.Prelude.{◌≡◌, ◌↔◌, ℕ, ◌<◌, All, List, length, map, true}
+use Rattle.std.specs.Prelude.{◌≡◌, ◌↔◌, ℕ, ◌<◌, All, List, [], ◌∷◌, length, map, true}
+use Rattle.std.specs.List.{flat_map}
+use Rattle.hm_messages_json.specs.declared.message.Level.{Level}
+use Rattle.hm_messages_json.specs.declared.message.Level.TheVariants.{Error, Note}
+use Rattle.hm_service_messages.specs.declared.diagnostic.Diagnostic.{Diagnostic}
 use Rattle.hm_service_places.specs.declared.checked.Checked.{Checked}
 use Rattle.hm_service_sources.specs.HeldSets.{AreAll, standing_of, texts_of}
 use Rattle.hm_service_sources.specs.declared.held.HeldSource.{HeldSource}
@@ -17,13 +21,22 @@ pub record IsWhole (texts : List (List ℕ)) (c : Checked) : Type 0 where
 abbrev pub IsGood : Build → ℕ → Type 0
 IsGood b i = status_at (state_of b).statuses i ≡ Published
 
--- the second check is of the same sources and has as many modules, of which the same are good; and each source has as many diagnostics
+-- a source, if something in it is an error
+abbrev pub error_in : Level → ℕ → List ℕ
+error_in Error source = source ∷ []
+error_in Note source = []
+
+-- the source of a diagnostic that is an error
+abbrev pub error_source : Diagnostic → List ℕ
+error_source d = error_in d.level d.source
+
+-- the second check is of the same sources and has as many modules, of which the same are good; and each source has as many errors
 pub record IsAsGood (c d : Checked) : Type 0 where
   pub part : d.part.items ≡ c.part.items
   pub modules : length d.build.store.modules ≡ length c.build.store.modules
   pub good : (i : ℕ) → i < length c.build.store.modules → IsGood c.build.store i ↔ IsGood d.build.store i
   pub skipped : d.told.skipped ≡ c.told.skipped
-  pub diagnostics : map (λ x. x.source) d.told.diagnostics.items ≡ map (λ x. x.source) c.told.diagnostics.items
+  pub errors : flat_map error_source d.told.diagnostics.items ≡ flat_map error_source c.told.diagnostics.items
 
 -- the sources have these texts, which can be read
 pub record AreHeldAs (texts : List (List ℕ)) (held : List HeldSource) : Type 0 where

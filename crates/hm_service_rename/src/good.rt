@@ -1,8 +1,9 @@
 //! Whether a check finds the same modules good as another one.
-ghost use Rattle.std.specs.Prelude.{◌≡◌, ◌↔◌, ◌<◌, ℕ, IfOk, IsTrue, length, map};
-ghost use Rattle.hm_service_rename.specs.Sets.{IsAsGood, IsGood};
+ghost use Rattle.std.specs.Prelude.{◌≡◌, ◌++◌, ◌↔◌, ◌<◌, ℕ, IfOk, IsTrue, OnOk};
+ghost use Rattle.std.specs.List.{flat_map};
+ghost use Rattle.hm_service_rename.specs.Sets.{IsAsGood, IsGood, error_source};
 
-use hm_service_messages::Told;
+use hm_service_messages::{Diagnostic, Level, Told};
 use hm_service_places::Checked;
 use hm_store::Store;
 use std::alloc::{AllocError, Global};
@@ -26,13 +27,25 @@ fn are_good(store: &Store, other: &Store, count: usize) -> bool
     true
 }
 
-/// Returns the source of each diagnostic.
+/// Adds the source of a diagnostic if it is an error.
+fn add_source(sources: &mut Vec<usize>, diagnostic: &Diagnostic) -> Result<(), AllocError>
+    ensures { OnOk result (sources.new.items ≡ sources.old.items ++ error_source diagnostic.now) }
+{
+    match diagnostic.level {
+        Level::Error => Ok(sources.push(diagnostic.source)?),
+        Level::Note => Ok(()),
+    }
+}
+
+// Why: docs/DECISIONS.md, "Errors of a rename".
+/// Returns the source of each error.
+#[tactic(auto, using(crate::proofs::Errors::errors_more))]
 fn sources_of(alloc: Global, told: &Told) -> Result<Vec<usize>, AllocError>
-    ensures { IfOk result (λ sources. sources.items ≡ map (λ d. d.source) told.now.diagnostics.items) }
+    ensures { IfOk result (λ sources. sources.items ≡ flat_map error_source told.now.diagnostics.items) }
 {
     let mut sources = Vec::new(alloc);
     'diagnostics: for diagnostic in told.diagnostics.as_slice() {
-        sources.push(diagnostic.source)?;
+        add_source(&mut sources, diagnostic)?;
     }
     Ok(sources)
 }
@@ -44,7 +57,7 @@ fn are_same(numbers: &[usize], others: &[usize]) -> bool
     numbers == others
 }
 
-/// Returns whether a check is of the same sources as another one, finds the same modules good, and has as many diagnostics of each source.
+/// Returns whether a check is of the same sources as another one, finds the same modules good, and has as many errors of each source.
 pub(crate) fn is_as_good(
     alloc: Global,
     before: &Checked,

@@ -31,7 +31,15 @@ const EXPORTS_X: &[u8] = b"module A (x) where { x = 1 ; y = x }";
 
 const IMPORTS_X: &[u8] = b"module B where { import A (x) ; z = A.x ; w x = x }";
 
-const ROWS: [Row; 38] = [
+const ROWS: [Row; 39] = [
+    Row {
+        what: "to a name that isn't in scope elsewhere, which gets a note on this module",
+        first: b"module A where { x = 1 }",
+        second: b"module B where { y = total }",
+        column: 18,
+        name: "total",
+        outcome: Outcome::Edits(1),
+    },
     Row {
         what: "through lists and a qualified use",
         first: EXPORTS_X,
