@@ -98,7 +98,7 @@ A comment begins with `--`.
 module D where { z = # ! }
                      ^
 <stdin>:1:24: error: the operator '!' isn't supported: the only one is ':' [lexeme]
-Define a function with a name, and write it before its arguments.
+Write `not x` for `!x`. Leave it out before an argument of a constructor: no argument is strict.
 module D where { z = # ! }
                        ^
 errors: 3, skipped modules: 0
@@ -108,7 +108,7 @@ A comment begins with `--`.
 module D where { z = # ! }
                      ^
 <stdin>:1:24: error: the operator '!' isn't supported: the only one is ':' [lexeme]
-Define a function with a name, and write it before its arguments.
+Write `not x` for `!x`. Leave it out before an argument of a constructor: no argument is strict.
 module D where { z = # ! }
                        ^
 bad.hs:1:18: error: expected ';', found '=' [syntax]
